@@ -1,0 +1,4 @@
+pub mod Figures
+pub mod Halving
+pub mod Roots
+pub mod Rule

@@ -1,0 +1,110 @@
+-- The two laws of each rounding of specs/Quotient.antt: n ≤ up·d < n + d and down·d ≤ n < down·d + d, over ℕ and over ℤ,
+-- and that a number between those bounds is the rounded one. Assumes nothing.
+use mathlib.Core.Path.{_≡_, refl, sym, ap, _∙_}
+use Prim.Native.Nat.{ℕ, zero, suc, _+_, _-_, _*_, _/_, _≤_, _<_}
+use native.Mathlib.Omega.{arith}
+use native.Mathlib.Nat.{div-mul-le-self, lt-div-mul-add, lt-of-mul-lt-mul-right, mul-le-mul-right, div-le-self}
+use lib.IntN.{ℤ, pos, negsuc, negℤ, _+ℤ_, _*ℤ_}
+use lib.Signed.{_≤ℤ_, _<ℤ_}
+use Rattle.exact.specs.Quotient.{up, down, upℤ, downℤ}
+use Rattle.exact.specs.SignedFraction.{above, below}
+use Rattle.exact.proofs.Integers.{ints, ≡-in, ≤ℤ-in, <ℤ-in, above-neg, below-neg, *ℤ-law, +ℤ-law}
+
+-- ---- naturals
+
+pub down-le : (n d : ℕ) → down n d * d ≤ n
+unfolding down
+down-le n d = div-mul-le-self n d
+
+pub down-lt : (n d : ℕ) → 0 < d → n < down n d * d + d
+unfolding down
+down-lt n d h = lt-div-mul-add h
+
+pub up-le : (n d : ℕ) → 0 < d → n ≤ up n d * d
+unfolding up
+up-le n d h = let k : n + (d - 1) < (n + (d - 1)) / d * d + d = lt-div-mul-add h in omega arith
+
+pub up-lt : (n d : ℕ) → 0 < d → up n d * d < n + d
+unfolding up
+up-lt n d h = omega (arith, div-mul-le-self (n + (d - 1)) d)
+
+-- two numbers less than one step apart are equal
+step : (d x y : ℕ) → x * d < y * d + d → x ≤ y
+step d x y h = let k : x < suc y = lt-of-mul-lt-mul-right d (omega arith) in omega arith
+
+pub up-is : (n d r : ℕ) → 0 < d → n ≤ r * d → r * d < n + d → r ≡ up n d
+up-is n d r h a b =
+    let k : r ≤ up n d = step d r (up n d) (omega (arith, up-le n d h)) in
+    let l : up n d ≤ r = step d (up n d) r (omega (arith, up-lt n d h)) in
+    omega arith
+
+pub down-is : (n d r : ℕ) → 0 < d → r * d ≤ n → n < r * d + d → r ≡ down n d
+down-is n d r h a b =
+    let k : r ≤ down n d = step d r (down n d) (omega (arith, down-lt n d h)) in
+    let l : down n d ≤ r = step d (down n d) r (omega (arith, down-le n d)) in
+    omega arith
+
+-- ---- integers, by their parts
+
+pub downℤ-le : (n : ℤ) (d : ℕ) → 0 < d → above (downℤ n d) * d + below n ≤ above n + below (downℤ n d) * d
+unfolding downℤ
+downℤ-le (pos a) d h = omega (arith, div-mul-le-self a d)
+downℤ-le (negsuc a) d h = let k : a < a / d * d + d = lt-div-mul-add h in omega arith
+
+pub downℤ-lt : (n : ℤ) (d : ℕ) → 0 < d → above n + below (downℤ n d) * d < above (downℤ n d) * d + d + below n
+unfolding downℤ
+downℤ-lt (pos a) d h = let k : a < a / d * d + d = lt-div-mul-add h in omega arith
+downℤ-lt (negsuc a) d h = omega (arith, div-mul-le-self a d)
+
+pub upℤ-le : (n : ℤ) (d : ℕ) → 0 < d → above n + below (upℤ n d) * d ≤ above (upℤ n d) * d + below n
+unfolding upℤ
+upℤ-le n d h =
+    let q = downℤ (negℤ n) d in
+    omega (arith, downℤ-le (negℤ n) d h, above-neg n, below-neg n, ap (λ (k : ℕ). k * d) (above-neg q), ap (λ (k : ℕ). k * d) (below-neg q))
+
+pub upℤ-lt : (n : ℤ) (d : ℕ) → 0 < d → above (upℤ n d) * d + below n < above n + below (upℤ n d) * d + d
+unfolding upℤ
+upℤ-lt n d h =
+    let q = downℤ (negℤ n) d in
+    omega (arith, downℤ-lt (negℤ n) d h, above-neg n, below-neg n, ap (λ (k : ℕ). k * d) (above-neg q), ap (λ (k : ℕ). k * d) (below-neg q))
+
+-- two integers less than one step apart are equal
+stepℤ : (d : ℕ) (x y : ℤ) → above x * d + below y * d < above y * d + below x * d + d → above x + below y ≤ above y + below x
+stepℤ d x y h = step d (above x + below y) (above y + below x) (omega arith)
+
+pub downℤ-is : (n r : ℤ) (d : ℕ) → 0 < d → above r * d + below n ≤ above n + below r * d → above n + below r * d < above r * d + d + below n → r ≡ downℤ n d
+downℤ-is n r d h a b =
+    let q = downℤ n d in
+    let k = stepℤ d r q (omega (arith, downℤ-lt n d h)) in
+    let l = stepℤ d q r (omega (arith, downℤ-le n d h)) in
+    ≡-in r q (omega arith)
+
+pub upℤ-is : (n r : ℤ) (d : ℕ) → 0 < d → above n + below r * d ≤ above r * d + below n → above r * d + below n < above n + below r * d + d → r ≡ upℤ n d
+upℤ-is n r d h a b =
+    let q = upℤ n d in
+    let k = stepℤ d r q (omega (arith, upℤ-le n d h)) in
+    let l = stepℤ d q r (omega (arith, upℤ-lt n d h)) in
+    ≡-in r q (omega arith)
+
+-- ---- the same laws as a reader of ℤ has them
+
+pub downℤ-laws : (n : ℤ) (d : ℕ) → 0 < d → ((downℤ n d *ℤ pos d) ≤ℤ n) × (n <ℤ (downℤ n d *ℤ pos d +ℤ pos d))
+downℤ-laws n d h =
+    let q = downℤ n d in
+    let p = q *ℤ pos d in (
+      ≤ℤ-in p n (omega (arith, downℤ-le n d h, *ℤ-law q (pos d))),
+      <ℤ-in n (p +ℤ pos d) (omega (arith, downℤ-lt n d h, *ℤ-law q (pos d), +ℤ-law p (pos d))),
+    )
+
+pub upℤ-laws : (n : ℤ) (d : ℕ) → 0 < d → (n ≤ℤ (upℤ n d *ℤ pos d)) × ((upℤ n d *ℤ pos d) <ℤ (n +ℤ pos d))
+upℤ-laws n d h =
+    let q = upℤ n d in
+    let p = q *ℤ pos d in (
+      ≤ℤ-in n p (omega (arith, upℤ-le n d h, *ℤ-law q (pos d))),
+      <ℤ-in p (n +ℤ pos d) (omega (arith, upℤ-lt n d h, *ℤ-law q (pos d), +ℤ-law n (pos d))),
+    )
+
+-- a quotient of a whole number that is not negative is the natural one
+pub downℤ-pos : (n d : ℕ) → downℤ (pos n) d ≡ pos (down n d)
+unfolding downℤ down
+downℤ-pos n d = refl

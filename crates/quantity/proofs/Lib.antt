@@ -1,0 +1,2 @@
+-- What the steps of `magnitude` come to.
+mod Magnitudes
