@@ -7,8 +7,9 @@ use native.Mathlib.Omega.{arith}
 use lib.Dec.{T, ltb, leb, ltb→lt, nltb→le, leb→le, le→leb, lt→ltb}
 use lib.IntN.{ℤ, pos, negsuc, negℤ, subℕ, _+ℤ_, _-ℤ_, _*ℤ_, natAbs}
 use lib.Signed.{mag, leZ, ltZ, _≤ℤ_, _<ℤ_}
-use mir.Syntax.{Width, w64}
-use mir.Val.{SFits, hbits}
+use mir.Syntax.{w64}
+use mir.Val.{SFits, toZ, ofZ}
+use mir.Facts.{toZ-ofZ}
 use Rattle.exact.specs.SignedFraction.{above, below}
 
 -- ---- the operations
@@ -17,7 +18,7 @@ by-test : (c : Bool) (x y : ℤ) (P : ℤ → Type 0) → (T c → P x) → (T (
 by-test true x y P f g = f tt
 by-test false x y P f g = g tt
 
-subℕ-law : (a b : ℕ) → above (subℕ a b) + b ≡ below (subℕ a b) + a
+pub subℕ-law : (a b : ℕ) → above (subℕ a b) + b ≡ below (subℕ a b) + a
 subℕ-law a b =
     by-test (ltb a b) (negsuc (b - suc a)) (pos (a - b)) (λ z. above z + b ≡ below z + a) (λ t. less a b (ltb→lt a b t))
     (λ t. more a b (nltb→le a b t))
@@ -56,6 +57,33 @@ pub *ℤ-law : (x y : ℤ) → above (x *ℤ y) + (above x * below y + below x *
 pub natAbs-law : (x : ℤ) → natAbs x ≡ above x + below x
 natAbs-law (pos a) = omega arith
 natAbs-law (negsuc a) = omega arith
+
+pub natAbs-neg : (x : ℤ) → natAbs (negℤ x) ≡ natAbs x
+natAbs-neg (pos zero) = refl
+natAbs-neg (pos (suc n)) = refl
+natAbs-neg (negsuc n) = refl
+
+natAbs-subℕ : (a b : ℕ) → natAbs (subℕ a b) ≤ a + b
+natAbs-subℕ a b =
+    by-test (ltb a b) (negsuc (b - suc a)) (pos (a - b)) (λ z. natAbs z ≤ a + b) (λ t. less a b (ltb→lt a b t)) (λ t. more a b)
+  where
+    less : (a b : ℕ) → a < b → suc (b - suc a) ≤ a + b
+    less a b h = omega arith
+
+    more : (a b : ℕ) → a - b ≤ a + b
+    more a b = omega arith
+
+pub natAbs-+ℤ : (x y : ℤ) → natAbs (x +ℤ y) ≤ natAbs x + natAbs y
+natAbs-+ℤ (pos a) (pos b) = omega arith
+natAbs-+ℤ (pos a) (negsuc b) = natAbs-subℕ a (suc b)
+natAbs-+ℤ (negsuc a) (pos b) = omega (arith, natAbs-subℕ b (suc a))
+natAbs-+ℤ (negsuc a) (negsuc b) = omega arith
+
+pub natAbs-*ℤ : (x y : ℤ) → natAbs (x *ℤ y) ≡ natAbs x * natAbs y
+natAbs-*ℤ (pos a) (pos b) = refl
+natAbs-*ℤ (pos a) (negsuc b) = natAbs-neg (pos (a * suc b))
+natAbs-*ℤ (negsuc a) (pos b) = natAbs-neg (pos (suc a * b))
+natAbs-*ℤ (negsuc a) (negsuc b) = refl
 
 -- one of the two parts is 0
 pub parts-apart : (x : ℤ) → above x * below x ≡ 0
@@ -134,5 +162,16 @@ fits-below {x = negsuc n} f = f .sfits
 pub fits-in : (x : ℤ) → above x < 2 ^ 63 → below x ≤ 2 ^ 63 → SFits w64 x
 fits-in (pos n) h k = record { sfits = h }
 fits-in (negsuc n) h k = record { sfits = k }
+
+-- a size below 2⁶³ fits
+pub fits-size : (x : ℤ) → natAbs x < 2 ^ 63 → SFits w64 x
+fits-size x h = fits-in x (omega (arith, natAbs-law x)) (omega (arith, natAbs-law x))
+
+-- a signed number is read back from its bits: of a parameter, by its range, and of a call's result
+pub read-back : {z : ℤ} → SFits w64 z → toZ w64 (ofZ w64 z) ≡ z
+read-back f = toZ-ofZ f
+
+pub returned : {z : ℤ} → mag z < 2 ^ 63 → toZ w64 (ofZ w64 z) ≡ z
+returned h = toZ-ofZ (record { sfits = h })
 
 pub ruleset ints = (arith, ≤ℤ-out, <ℤ-out, ≡-out, fits-above, fits-below, ≤ℤ-in, <ℤ-in)

@@ -3,3 +3,4 @@ pub mod Integers
 pub mod Multiply
 pub mod Quotients
 pub mod Rounding
+mod SumSteps

@@ -108,3 +108,6 @@ upℤ-laws n d h =
 pub downℤ-pos : (n d : ℕ) → downℤ (pos n) d ≡ pos (down n d)
 unfolding downℤ down
 downℤ-pos n d = refl
+
+pub upℤ-pos : (n d : ℕ) → 0 < d → upℤ (pos n) d ≡ pos (up n d)
+upℤ-pos n d h = sym (upℤ-is (pos n) (pos (up n d)) d h (omega (arith, up-le n d h)) (omega (arith, up-lt n d h)))

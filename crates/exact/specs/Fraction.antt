@@ -3,6 +3,7 @@
 use mathlib.Core.Bool.{Bool, true, false, cond}
 use Prim.Native.Nat.{ℕ, _+_, _-_, _*_, _≤_, _<_}
 use lib.Dec.{leb}
+use Rattle.exact.specs.Quotient.{up, down}
 
 pub record Fraction : Type 0 where
   pub num : ℕ
@@ -13,7 +14,7 @@ Proper x = 0 < x .den
 
 infix 50 _≤F_ _<F_
 infixl 60 _+F_ _∸F_
-infixl 70 _*F_ _/F_
+infixl 70 _*F_ _/F_ _÷F_
 abbrev pub whole : ℕ → Fraction
 whole n = record { num = n; den = 1 }
 
@@ -46,3 +47,24 @@ smaller x y = cond (leF x y) x y
 
 unfoldable pub larger : Fraction → Fraction → Fraction
 larger x y = cond (leF x y) y x
+
+-- n/d
+abbrev pub ratio : ℕ → ℕ → Fraction
+ratio n d = record { num = n; den = d }
+
+abbrev pub times : ℕ → Fraction → Fraction
+times n x = record { num = n * x .num; den = x .den }
+
+abbrev pub cube : Fraction → Fraction
+cube x = record { num = x .num * x .num * x .num; den = x .den * x .den * x .den }
+
+-- rounded up, and down
+abbrev pub upF : Fraction → ℕ
+upF x = up (x .num) (x .den)
+
+abbrev pub downF : Fraction → ℕ
+downF x = down (x .num) (x .den)
+
+-- a quotient of two fractions; it is proper where the second is not 0
+abbrev pub _÷F_ : Fraction → Fraction → Fraction
+x ÷F y = record { num = x .num * y .den; den = x .den * y .num }

@@ -2,3 +2,4 @@
 pub mod Quotient
 pub mod Fraction
 pub mod SignedFraction
+pub mod Sums

@@ -1,7 +1,8 @@
 -- Signed fractions: (plus − minus) / den over the naturals, so that a difference is a true one (0 − 1 is −1).
 -- The order is by cross-multiplication; a proper fraction has a positive denominator.
 use Prim.Native.Nat.{ℕ, zero, suc, _+_, _-_, _*_, _≤_, _<_}
-use lib.IntN.{ℤ, pos, negsuc}
+use lib.IntN.{ℤ, pos, negsuc, subℕ}
+use Rattle.exact.specs.Quotient.{upℤ, downℤ}
 use Rattle.exact.specs.Fraction.{Fraction}
 
 pub record SignedFraction : Type 0 where
@@ -51,3 +52,26 @@ size x = record { num = (x .plus - x .minus) + (x .minus - x .plus); den = x .de
 -- the fraction, and 0 where it is negative
 abbrev pub positive : SignedFraction → Fraction
 positive x = record { num = x .plus - x .minus; den = x .den }
+
+-- n/d
+abbrev pub ratioS : ℤ → ℕ → SignedFraction
+ratioS n d = record { plus = above n; minus = below n; den = d }
+
+abbrev pub timesS : ℕ → SignedFraction → SignedFraction
+timesS n x = record { plus = n * x .plus; minus = n * x .minus; den = x .den }
+
+-- the cube, which keeps the sign: (p − m)³ = (p³ + 3·p·m²) − (3·p²·m + m³)
+abbrev pub cubeS : SignedFraction → SignedFraction
+cubeS x =
+    record {
+      plus = x .plus * x .plus * x .plus + 3 * (x .plus * x .minus * x .minus);
+      minus = 3 * (x .plus * x .plus * x .minus) + x .minus * x .minus * x .minus;
+      den = x .den * x .den * x .den;
+    }
+
+-- rounded up, and down
+abbrev pub upS : SignedFraction → ℤ
+upS x = upℤ (subℕ (x .plus) (x .minus)) (x .den)
+
+abbrev pub downS : SignedFraction → ℤ
+downS x = downℤ (subℕ (x .plus) (x .minus)) (x .den)

@@ -5,6 +5,9 @@ ghost use Prim.Native.Nat.{_<_};
 ghost use lib.IntN.{pos, natAbs};
 ghost use lib.Signed.{_<ℤ_};
 ghost use Rattle.exact.specs.Quotient.{up, downℤ, upℤ};
+ghost use Rattle.exact.specs.Fraction.{upF};
+ghost use Rattle.exact.specs.SignedFraction.{wholeS, ratioS, _+S_, upS, downS, size};
+ghost use Rattle.exact.specs.Sums.{SumFits};
 
 // n / d, down.
 pub fn floor_div(n: i64, d: i64) -> i64
@@ -28,4 +31,33 @@ pub fn ceil_div_unsigned(n: u64, d: u64) -> u64
     ensures { λ r. ⌜ r ≡ up n d ⌝ }
 {
     if n == 0 { 0 } else { 1 + (n - 1) / d }
+}
+
+// whole + num / den, up.
+pub fn sum_up(whole: i64, num: i64, den: i64) -> i64
+    requires { ⌜ SumFits whole num den ⌝ }
+    ensures { λ r. ⌜ r ≡ upS (wholeS whole +S ratioS num (natAbs den)) ⌝ }
+{
+    ceil_div(whole * den + num, den)
+}
+
+// whole + num / den, down.
+pub fn sum_down(whole: i64, num: i64, den: i64) -> i64
+    requires { ⌜ SumFits whole num den ⌝ }
+    ensures { λ r. ⌜ r ≡ downS (wholeS whole +S ratioS num (natAbs den)) ⌝ }
+{
+    floor_div(whole * den + num, den)
+}
+
+// The size of whole + num / den without its sign, up.
+pub fn size_up(whole: i64, num: i64, den: i64) -> i64
+    requires { ⌜ SumFits whole num den ⌝ }
+    ensures { λ r. ⌜ r ≡ pos (upF (size (wholeS whole +S ratioS num (natAbs den)))) ⌝ }
+{
+    let total = whole * den + num;
+    if total < 0 {
+        ceil_div(0 - total, den)
+    } else {
+        ceil_div(total, den)
+    }
 }

@@ -1,0 +1,82 @@
+-- The smaller of two fractions, and the bounds of the coefficient for operands in range: a positive denominator, a numerator
+-- up to 2·10¹⁰, a denominator up to 10¹⁰, and never above q/100. Assumes nothing.
+use mathlib.Core.Path.{_≡_, refl, sym, ap}
+use mathlib.Core.Bool.{Bool, true, false, cond}
+use Prim.Native.Nat.{ℕ, zero, suc, _+_, _*_, _≤_, _<_}
+use native.Mathlib.Omega.{arith}
+use native.Mathlib.Nat.{mul-le-mul}
+use lib.Dec.{eqb, leb}
+use borrow.Author.Tests.{leb-true, leb-false, eqb-true, eqb-false, le-leb, lt-leb, eq-eqb, ne-eqb}
+use Rattle.exact.specs.Fraction.{Fraction, Proper, ratio, leF, smaller, _≤F_, _<F_}
+use Rattle.coefficient.specs.Coefficient.{coefficientOf, CoefficientRange}
+
+-- a claim of both is a claim of the smaller
+pub smaller-either : (x y : Fraction) (P : Fraction → Type 0) → P x → P y → P (smaller x y)
+unfolding smaller
+smaller-either x y P a b = by (leF x y)
+  where
+    by : (t : Bool) → P (cond t x y)
+    by true = a
+    by false = b
+
+pub smaller-first : (x y : Fraction) → x ≤F y → smaller x y ≡ x
+unfolding smaller
+smaller-first x y h = rw (le-leb (x .num * y .den) (y .num * x .den) h)
+
+pub smaller-second : (x y : Fraction) → y <F x → smaller x y ≡ y
+unfolding smaller
+smaller-second x y h = rw (lt-leb (x .num * y .den) (y .num * x .den) h)
+
+-- it is at most either
+pub smaller-≤-second : (x y : Fraction) → smaller x y ≤F y
+unfolding smaller
+smaller-≤-second x y = by (leF x y) refl
+  where
+    by : (t : Bool) → leF x y ≡ t → cond t x y ≤F y
+    by true e = leb-true (x .num * y .den) (y .num * x .den) e
+    by false e = omega arith
+
+pub smaller-≤-first : (x y : Fraction) → smaller x y ≤F x
+unfolding smaller
+smaller-≤-first x y = by (leF x y) refl
+  where
+    by : (t : Bool) → leF x y ≡ t → cond t x y ≤F x
+    by true e = omega arith
+    by false e = omega (arith, leb-false (x .num * y .den) (y .num * x .den) e)
+
+-- ---- the coefficient
+
+pub coefficient-zero : (g R q : ℕ) → coefficientOf g R 0 q ≡ ratio q 100
+unfolding coefficientOf
+coefficient-zero g R q = refl
+
+pub coefficient-else : (g R E q : ℕ) → (E ≡ 0 → ⊥) → coefficientOf g R E q ≡ smaller (ratio (g * R) (100 * E)) (ratio q 100)
+unfolding coefficientOf
+coefficient-else g R E q h = rw (ne-eqb E 0 h)
+
+-- a claim of both forms is a claim of the coefficient
+pub coefficient-either : (g R E q : ℕ) (P : Fraction → Type 0) → ((E ≡ 0 → ⊥) → P (ratio (g * R) (100 * E))) → P (ratio q 100) → P (coefficientOf g R E q)
+unfolding coefficientOf
+coefficient-either g R E q P a b = by (eqb E 0) refl
+  where
+    by : (t : Bool) → eqb E 0 ≡ t → P (cond t (ratio q 100) (smaller (ratio (g * R) (100 * E)) (ratio q 100)))
+    by true e = b
+    by false e = smaller-either (ratio (g * R) (100 * E)) (ratio q 100) P (a (eqb-false E 0 e)) b
+
+pub proper : (g R E q : ℕ) → Proper (coefficientOf g R E q)
+proper g R E q = coefficient-either g R E q Proper (λ h. omega arith) (omega arith)
+
+-- a ≤ q/100
+pub capped : (g R E q : ℕ) → coefficientOf g R E q ≤F ratio q 100
+unfolding coefficientOf
+capped g R E q = by (eqb E 0)
+  where
+    by : (t : Bool) → cond t (ratio q 100) (smaller (ratio (g * R) (100 * E)) (ratio q 100)) ≤F ratio q 100
+    by true = omega arith
+    by false = smaller-≤-second (ratio (g * R) (100 * E)) (ratio q 100)
+
+pub num-le : (g R E q : ℕ) → CoefficientRange g R E q → coefficientOf g R E q .num ≤ 20000000000
+num-le g R E q h = coefficient-either g R E q (λ x. x .num ≤ 20000000000) (λ k. omega (arith, mul-le-mul (h .overstrength) (h .resistance))) (omega (arith, h .behaviour))
+
+pub den-le : (g R E q : ℕ) → CoefficientRange g R E q → coefficientOf g R E q .den ≤ 10000000000
+den-le g R E q h = coefficient-either g R E q (λ x. x .den ≤ 10000000000) (λ k. omega (arith, h .seismic)) (omega arith)

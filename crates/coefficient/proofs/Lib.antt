@@ -1,0 +1,2 @@
+-- What callers cite of the coefficient.
+pub mod Bounds

@@ -1,0 +1,2 @@
+-- The capacity coefficient. Assumes nothing.
+pub mod Coefficient
