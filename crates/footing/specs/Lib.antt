@@ -1,0 +1,5 @@
+-- Footing: the two rows, exact values and claims. Assumes nothing.
+pub mod Actions
+pub mod Rows
+pub mod Ranges
+pub mod Claimed

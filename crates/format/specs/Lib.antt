@@ -1,0 +1,6 @@
+-- The format of a job's commands. 01, "Job commands". Assumes nothing.
+pub mod Number
+pub mod Forms
+pub mod Layouts
+pub mod Commands
+pub mod Reading

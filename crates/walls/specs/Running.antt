@@ -1,0 +1,21 @@
+-- The running values of the latest wall, kept from its base command on: a, W and MR of 01, "Members", wall base and storey.
+use Prim.Native.Nat.{ℕ, _≤_, _<_}
+use Rattle.walls.specs.declared.Wall.{Wall}
+use Rattle.walls.specs.declared.WallBase.{WallBase}
+use Rattle.walls.specs.Base.{wallCoefficient, baseShear}
+
+-- those of the wall with this base
+unfoldable pub wallOf : ℕ → WallBase → Wall
+wallOf q b =
+    record {
+      coefficient = record { num = wallCoefficient q b .num; den = wallCoefficient q b .den };
+      shear = baseShear q b;
+      resistance = b .resistance;
+    }
+
+-- what the rows ask of them, met by those of every base in range
+pub record WallRange (w : Wall) : Type 0 where
+  pub numerator : w .coefficient .num ≤ 20000000000
+  pub denominator : 0 < w .coefficient .den
+  pub shear : w .shear ≤ 400000000
+  pub resistance : w .resistance ≤ 100000000
