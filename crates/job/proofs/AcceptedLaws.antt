@@ -1,0 +1,162 @@
+-- Laws of an accepted job: it begins with settings and ends with its only end, has at most 4,096 other commands, and these
+-- stand one after the other and fill it. Assumes nothing.
+use mathlib.Core.Path.{_≡_, refl, sym, ap, _∙_, subst}
+use mathlib.Core.Bool.{true, false}
+use mathlib.Core.List.{List, [], _∷_, _++_}
+use Prim.Native.Nat.{ℕ, zero, suc, _+_, _-_, _≤_}
+use native.Mathlib.Omega.{arith}
+use native.Mathlib.Nat.{add-zero}
+use lib.Dec.{eqb}
+use lib.ListN.{length}
+use borrow.Author.Tests.{eqb-true, not-false}
+use Rattle.coefficient.specs.declared.Settings.{Settings}
+use Rattle.format.specs.Layouts.{known, operandsWidth}
+use Rattle.format.specs.Commands.{Command, settings, byteOf, commandOf, settingsOf}
+use Rattle.format.specs.Reading.{byteAt, operandsAt, commandAt}
+use Rattle.format.proofs.KnownBytes.{known-most}
+use Rattle.format.proofs.RoundTrip.{byte-back, at}
+use Rattle.held.specs.Held.{Held, nothing, next}
+use Rattle.job.specs.Faults.{afterCommand, faultAt, misplaced}
+use Rattle.job.specs.Placed.{Placed, Job, refused, accepted, before, placedFrom, placed}
+use Rattle.job.proofs.Steps.{count-below}
+use Rattle.job.proofs.Simulation.{Faultless, faultless}
+use Rattle.job.proofs.PlacedCases.{placedAt, restAfter, by-cases}
+
+-- the bytes of a command: its own, and its operands'
+abbrev pub widthOf : Placed → ℕ
+widthOf p = 1 + operandsWidth (byteOf (p .command))
+
+-- of all of them
+abbrev pub widthsOf : List Placed → ℕ
+widthsOf [] = 0
+widthsOf (p ∷ ps) = widthOf p + widthsOf ps
+
+-- a command that stands at an offset of a job, and is no end
+pub record Stands (job : List ℕ) (offset : ℕ) (p : Placed) : Type 0 where
+  pub place : p .offset ≡ offset
+  pub read : p .command ≡ commandAt job offset
+  pub other : byteOf (p .command) ≡ 0 → ⊥
+
+-- the commands from an offset on, after `count` commands
+record Filled (job : List ℕ) (offset count : ℕ) (ps : List Placed) : Type 0 where
+  pub few : count + length ps ≤ 4096
+  pub widths : offset + widthsOf ps + 1 ≡ length job
+  pub last : byteAt job (offset + widthsOf ps) ≡ 0
+  pub each : (earlier : List Placed) (p : Placed) (later : List Placed) → ps ≡ earlier ++ p ∷ later → Stands job (offset + widthsOf earlier) p
+
+abbrev Filling : List ℕ → ℕ → ℕ → Job → Type 0
+Filling job offset count (refused number at) = Unit {0}
+Filling job offset count (accepted ps) = Filled job offset count ps
+
+-- the byte of a command that was read is that in the job
+byte-read : (job : List ℕ) (offset : ℕ) → known (byteAt job offset) ≡ true → byteOf (commandAt job offset) ≡ byteAt job offset
+unfolding commandAt
+byte-read job offset k = byte-back (byteAt job offset) (at (operandsAt job offset)) (known-most (byteAt job offset) k)
+
+-- one command in front
+module _ (job : List ℕ) (offset count : ℕ) (h : Held) (f : Faultless job offset count h) (z : byteAt job offset ≡ 0 → ⊥) where
+  same-byte : byteOf (commandAt job offset) ≡ byteAt job offset
+  same-byte = byte-read job offset (f .known-byte)
+
+  same-width : operandsWidth (byteOf (commandAt job offset)) ≡ operandsWidth (byteAt job offset)
+  same-width = ap operandsWidth same-byte
+
+  here : Stands job offset (placedAt job offset h)
+  here = record { place = refl; read = refl; other = λ e. z (sym same-byte ∙ e) }
+
+  each-more : (ps : List Placed) → ((earlier : List Placed) (p : Placed) (later : List Placed) → ps ≡ earlier ++ p ∷ later → Stands job (afterCommand job offset + widthsOf earlier) p) →
+      (earlier : List Placed) (p : Placed) (later : List Placed) → placedAt job offset h ∷ ps ≡ earlier ++ p ∷ later → Stands job (offset + widthsOf earlier) p
+  each-more ps g [] p later e = let q : placedAt job offset h ≡ p = cc in subst (λ (k : ℕ). Stands job k p) (sym (add-zero offset)) (subst (Stands job offset) q here)
+  each-more ps g (x ∷ earlier) p later e =
+      let q : ps ≡ earlier ++ p ∷ later = cc in
+      let r : placedAt job offset h ≡ x = cc in
+      let w : widthOf (placedAt job offset h) ≡ widthOf x = ap widthOf r in
+      let s : afterCommand job offset + widthsOf earlier ≡ offset + widthsOf (x ∷ earlier) = omega (arith, same-width) in
+      subst (λ (k : ℕ). Stands job k p) s (g earlier p later q)
+
+  filled-more : (ps : List Placed) → Filled job (afterCommand job offset) (count + 1) ps → Filled job offset count (placedAt job offset h ∷ ps)
+  filled-more ps g =
+      let s : offset + widthsOf (placedAt job offset h ∷ ps) ≡ afterCommand job offset + widthsOf ps = omega (arith, same-width) in
+      record { few = omega (arith, g .few); widths = omega (arith, g .widths); last = ap (λ (k : ℕ). byteAt job k) s ∙ g .last; each = each-more ps (g .each) }
+
+  filling-more : (j : Job) → Filling job (afterCommand job offset) (count + 1) j → Filling job offset count (before (placedAt job offset h) j)
+  filling-more (refused number at) g = tt
+  filling-more (accepted ps) g = filled-more ps g
+
+filling : (n : ℕ) (job : List ℕ) (offset count : ℕ) (h : Held) → count ≤ 4096 → Filling job offset count (placedFrom n job offset count h)
+unfolding placedFrom
+filling zero job offset count h c = tt
+filling (suc n) job offset count h c =
+    by-cases n job offset count h (Filling job offset count) (λ l. tt) (λ l k e. tt) (λ l e b m. tt)
+    (λ l e b m. record { few = omega arith; widths = omega arith; last = ap (λ (k : ℕ). byteAt job k) (add-zero offset) ∙ b; each = λ earlier p later q. absurd (no earlier p later q) })
+    (λ l e b.
+    let f = faultless job offset count h e in
+    filling-more job offset count h f b (restAfter n job offset count h)
+    (filling n job (afterCommand job offset) (count + 1) (next h (commandAt job offset)) (omega (arith, count-below (byteAt job offset) count b (f .few)))))
+  where
+    no : (earlier : List Placed) (p : Placed) (later : List Placed) → [] ≡ earlier ++ p ∷ later → ⊥
+    no [] p later e = let z : _≡_ {A = ℕ} 0 1 = cc in omega arith
+    no (x ∷ earlier) p later e = let z : _≡_ {A = ℕ} 0 1 = cc in omega arith
+
+-- ---- the first command
+
+-- at the start, where no settings are given, only settings pass
+first-byte : (byte : ℕ) → misplaced byte false ≡ false → byte ≡ 1
+unfolding misplaced
+first-byte byte e = eqb-true byte 1 (not-false (eqb byte 1) e)
+
+settings-read : (job : List ℕ) (offset : ℕ) → byteAt job offset ≡ 1 → commandAt job offset ≡ settings (settingsOf (at (operandsAt job offset)))
+unfolding commandAt commandOf
+settings-read job offset e = rw e
+
+-- a list of placed commands whose first is settings, at offset 0
+abbrev pub BeginsWithSettings : List Placed → Type 0
+BeginsWithSettings ps = (s : Settings) × (later : List Placed) × (ps ≡ record { offset = 0; command = settings s; held = nothing } ∷ later)
+
+begins : (n : ℕ) (job : List ℕ) (ps : List Placed) → placedFrom (suc n) job 0 0 nothing ≡ accepted ps → BeginsWithSettings ps
+begins n job ps =
+    by-cases n job 0 0 nothing (λ j. j ≡ accepted ps → BeginsWithSettings ps) (λ l q. absurd (differ q)) (λ l k f q. absurd (differ q)) (λ l f b m q. absurd (differ q))
+    (λ l f b m q. absurd (no-first b (first f))) (λ l f b q. front (restAfter n job 0 0 nothing) q (settings-read job 0 (first f)))
+  where
+    differ : {number offset : ℕ} → refused number offset ≡ accepted ps → ⊥
+    differ q = let z : _≡_ {A = ℕ} 0 1 = cc in omega arith
+
+    first : faultAt job 0 0 nothing ≡ 0 → byteAt job 0 ≡ 1
+    first f = first-byte (byteAt job 0) (faultless job 0 0 nothing f .settings)
+
+    no-first : {byte : ℕ} → byte ≡ 0 → byte ≡ 1 → ⊥
+    no-first b c = omega arith
+
+    front : (j : Job) → before (placedAt job 0 nothing) j ≡ accepted ps → commandAt job 0 ≡ settings (settingsOf (at (operandsAt job 0))) → BeginsWithSettings ps
+    front (refused number offset) q c = absurd (differ q)
+    front (accepted later) q c =
+        let r : ps ≡ placedAt job 0 nothing ∷ later = cc in
+        (settingsOf (at (operandsAt job 0)), later, r ∙ ap (λ (d : Command). record { offset = 0; command = d; held = nothing } ∷ later) c)
+
+-- ---- the laws
+
+module _ (job : List ℕ) (ps : List Placed) (e : placed job ≡ accepted ps) where
+  filled : Filled job 0 0 ps
+  unfolding placed
+  filled = subst (Filling job 0 0) e (filling 4097 job 0 0 nothing (omega arith))
+
+  -- it begins with settings
+  pub accepted-begins : BeginsWithSettings ps
+  unfolding placed
+  accepted-begins = begins 4096 job ps e
+
+  -- it ends with an end
+  pub accepted-ends : byteAt job (length job - 1) ≡ 0
+  accepted-ends = let s : length job - 1 ≡ 0 + widthsOf ps = omega (arith, filled .widths) in ap (λ (k : ℕ). byteAt job k) s ∙ filled .last
+
+  -- each other command stands in the job where those before it end, and is no end
+  pub accepted-each : (earlier : List Placed) (p : Placed) (later : List Placed) → ps ≡ earlier ++ p ∷ later → Stands job (widthsOf earlier) p
+  accepted-each earlier p later q = let s : 0 + widthsOf earlier ≡ widthsOf earlier = omega arith in subst (λ (k : ℕ). Stands job k p) s (filled .each earlier p later q)
+
+  -- there are at most 4,096 of them
+  pub accepted-count : length ps ≤ 4096
+  accepted-count = omega (arith, filled .few)
+
+  -- their widths and the end's one byte add up to the length
+  pub accepted-widths : widthsOf ps + 1 ≡ length job
+  accepted-widths = omega (arith, filled .widths)

@@ -1,0 +1,11 @@
+-- The walk of the code is the placed commands of the specification; the laws of jobs that are refused and of jobs that are
+-- accepted; refusals by computation.
+mod Steps
+mod Operands
+mod Stands
+pub mod PlacedCases
+pub mod Simulation
+pub mod Begin
+pub mod RefusedLaws
+pub mod AcceptedLaws
+pub mod Refusals

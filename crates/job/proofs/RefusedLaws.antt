@@ -1,0 +1,190 @@
+-- Laws of a refused job: where a refusal stands, which numbers there are, and that it stays whatever bytes follow the faulty
+-- command. Assumes nothing.
+use mathlib.Core.Path.{_≡_, refl, sym, ap, _∙_, subst}
+use mathlib.Core.Bool.{Bool, true, false, not, cond}
+use mathlib.Core.List.{List, [], _∷_, _++_}
+use Prim.Native.Nat.{ℕ, zero, suc, _+_, _≤_, _<_}
+use native.Mathlib.Omega.{arith}
+use lib.Dec.{T, eqb, leb, lit≤, T-not}
+use lib.ListN.{length, drop, length-append, length-drop, List·getD-append}
+use lib.Seq.{take-append-le, drop-append-le}
+use borrow.Author.Tests.{le-ltb}
+use Rattle.format.specs.declared.Form.{Form}
+use Rattle.format.specs.Forms.{width}
+use Rattle.format.specs.Layouts.{formsOf, widthOfAll, operandsWidth}
+use Rattle.format.specs.Reading.{byteAt, commandAt, readOperands}
+use Rattle.format.proofs.Widths.{widths}
+use Rattle.held.specs.Held.{Held, nothing, next, given, absent, repeated}
+use Rattle.job.specs.Faults.{unknown, afterCommand, cutShort, tooMany, misplaced, outOfRange, faultAt}
+use Rattle.job.specs.Placed.{Placed, Job, refused, accepted, before, placedFrom, placed}
+use Rattle.job.proofs.Simulation.{faultless}
+use Rattle.job.proofs.PlacedCases.{placedAt, restAfter, placed-fault, placed-more, placed-goes, by-cases}
+
+-- ---- where a refusal stands, and its number
+
+-- the number of a fault is at most 8, and it is not 3, that of bytes after the end
+record FaultNumber (n : ℕ) : Type 0 where
+  pub most : n ≤ 8
+  pub other : n ≡ 3 → ⊥
+
+fault-number : (job : List ℕ) (at count : ℕ) (h : Held) → FaultNumber (faultAt job at count h)
+unfolding faultAt
+fault-number job at count h =
+    pick (unknown job at) 2 tt tt (pick (cutShort job at) 1 tt tt (pick (tooMany (byteAt job at) count) 8 tt tt (pick (misplaced (byteAt job at) (given (h .settings))) 4 tt tt
+    (pick (outOfRange (commandAt job at)) 5 tt tt (pick (absent h (commandAt job at)) 6 tt tt (pick (repeated h (commandAt job at)) 7 tt tt (is 0 tt tt)))))))
+  where
+    is : (n : ℕ) → T (leb n 8) → T (not (eqb n 3)) → FaultNumber n
+    is n l t = record { most = lit≤ l; other = λ e. T-not (eqb n 3) t (rw e tt) }
+
+    pick : (t : Bool) (m : ℕ) {n : ℕ} → T (leb m 8) → T (not (eqb m 3)) → FaultNumber n → FaultNumber (cond t m n)
+    pick true m l o r = is m l o
+    pick false m l o r = r
+
+-- a refusal of the commands from `at` on
+record Stands (job : List ℕ) (at number offset : ℕ) : Type 0 where
+  pub from : at ≤ offset
+  pub inside : offset ≤ length job
+  pub least : 1 ≤ number
+  pub most : number ≤ 8
+
+abbrev Standing : List ℕ → ℕ → Job → Type 0
+Standing job at (refused number offset) = Stands job at number offset
+Standing job at (accepted ps) = Unit {0}
+
+standing : (n : ℕ) (job : List ℕ) (at count : ℕ) (h : Held) → at ≤ length job → Standing job at (placedFrom n job at count h)
+unfolding placedFrom
+standing zero job at count h w = record { from = omega arith; inside = w; least = lit≤ tt; most = lit≤ tt }
+standing (suc n) job at count h w =
+    by-cases n job at count h (Standing job at)
+    (λ l. record { from = w; inside = omega arith; least = lit≤ tt; most = lit≤ tt })
+    (λ l k e. record { from = omega arith; inside = w; least = omega arith; most = omega (arith, fault-number job at count h .most) })
+    (λ l e b m. record { from = omega arith; inside = omega arith; least = lit≤ tt; most = lit≤ tt })
+    (λ l e b m. tt)
+    (λ l e b. earlier (restAfter n job at count h) (standing n job (afterCommand job at) (count + 1) (next h (commandAt job at)) (faultless job at count h e .whole)))
+  where
+    earlier : (j : Job) → Standing job (afterCommand job at) j → Standing job at (before (placedAt job at h) j)
+    earlier (refused number offset) s = record { from = omega (arith, s .from); inside = s .inside; least = s .least; most = s .most }
+    earlier (accepted ps) s = tt
+
+module _ (job : List ℕ) (number offset : ℕ) (e : placed job ≡ refused number offset) where
+  stands : Stands job 0 number offset
+  unfolding placed
+  stands = subst (Standing job 0) e (standing 4097 job 0 0 nothing (omega arith))
+
+  -- the refused offset is at most the file's length
+  pub refused-offset : offset ≤ length job
+  refused-offset = stands .inside
+
+  -- placing refuses with a number from 1 to 8
+  pub refused-number : (1 ≤ number) × (number ≤ 8)
+  refused-number = (stands .least, stands .most)
+
+-- ---- what is read of a command lies in its bytes
+
+reads-first : (fs : List Form) (bytes more : List ℕ) → widthOfAll fs ≤ length bytes → readOperands fs (bytes ++ more) ≡ readOperands fs bytes
+unfolding readOperands widthOfAll
+reads-first [] bytes more h = refl
+reads-first (f ∷ fs) bytes more h =
+    let l : width f ≤ length bytes = omega arith in
+    let m : widthOfAll fs ≤ length (drop (width f) bytes) = omega (arith, length-drop (width f) bytes) in
+    rw (take-append-le (width f) bytes more l, drop-append-le (width f) bytes more l, reads-first fs (drop (width f) bytes) more m)
+
+-- a command that lies in the front of a job, whatever follows
+module _ (front : List ℕ) (at : ℕ) (w : afterCommand front at ≤ length front) (more : List ℕ) where
+  byte-in-front : byteAt (front ++ more) at ≡ byteAt front at
+  byte-in-front = List·getD-append front more 0 at (omega arith)
+
+  command-in-front : commandAt (front ++ more) at ≡ commandAt front at
+  unfolding commandAt operandsWidth
+  command-in-front =
+      let l : at + 1 ≤ length front = omega arith in
+      let m : widthOfAll (formsOf (byteAt front at)) ≤ length (drop (at + 1) front) = omega (arith, length-drop (at + 1) front) in
+      rw (byte-in-front, drop-append-le (at + 1) front more l, reads-first (formsOf (byteAt front at)) (drop (at + 1) front) more m)
+
+  fault-in-front : (count : ℕ) (h : Held) → faultAt (front ++ more) at count h ≡ faultAt front at count h
+  unfolding faultAt
+  fault-in-front count h =
+      let l : afterCommand front at ≤ length (front ++ more) = omega (arith, length-append front more) in
+      rw (byte-in-front, command-in-front, le-ltb (length (front ++ more)) (afterCommand front at) l, le-ltb (length front) (afterCommand front at) w)
+
+-- ---- a refusal stays
+
+-- what is behind a command is refused where the whole is
+behind : (p : Placed) (j : Job) {number offset : ℕ} → before p j ≡ refused number offset → j ≡ refused number offset
+behind p (refused number offset) e = e
+behind p (accepted ps) e = absurd (no e)
+  where
+    no : {number offset : ℕ} → accepted (p ∷ ps) ≡ refused number offset → ⊥
+    no e = let z : _≡_ {A = ℕ} 0 1 = cc in omega arith
+
+-- where the refusal is of a command, the front holds this whole; where it is 3, its offset lies in the front
+module _ (front a b : List ℕ) (number offset : ℕ) (w : offset < length front) (whole : (number ≡ 3 → ⊥) → afterCommand front offset ≤ length front) where
+  -- at a command that lies in the front, the same fault is found
+  fault-same : (at count : ℕ) (h : Held) → afterCommand front at ≤ length front → faultAt (front ++ b) at count h ≡ faultAt (front ++ a) at count h
+  fault-same at count h v = fault-in-front front at v b count h ∙ sym (fault-in-front front at v a count h)
+
+  longer : (c : List ℕ) {k : ℕ} → k < length front → k < length (front ++ c)
+  longer c h = omega (arith, length-append front c)
+
+  -- a job that begins as this one does is refused as this one is
+  abbrev Kept : ℕ → ℕ → ℕ → Held → Job → Type 0
+  Kept n at count h j = j ≡ refused number offset → placedFrom n (front ++ b) at count h ≡ refused number offset
+
+  -- the cases of a step
+  module _ (n at count : ℕ) (h : Held) (l : at < length (front ++ a)) where
+    kept-fault : (k : ℕ) → faultAt (front ++ a) at count h ≡ suc k → Kept (suc n) at count h (refused (suc k) at)
+    kept-fault k f e =
+        let q : offset ≡ at = cc in
+        let r : number ≡ faultAt (front ++ a) at count h = cc in
+        let v : afterCommand front at ≤ length front = rw q at (whole (λ t. fault-number (front ++ a) at count h .other (sym r ∙ t))) in
+        placed-fault n (front ++ b) at count h (longer b (omega arith)) k (fault-same at count h v ∙ f) ∙ e
+
+    module _ (f : faultAt (front ++ a) at count h ≡ 0) where
+      kept-after : byteAt (front ++ a) at ≡ 0 → Kept (suc n) at count h (refused 3 (at + 1))
+      kept-after z e =
+          let q : offset ≡ at + 1 = cc in
+          let u : at + 1 < length front = omega arith in
+          let y : byteAt front at ≡ 0 = sym (List·getD-append front a 0 at (omega arith)) ∙ z in
+          let v : afterCommand front at ≤ length front = omega (arith, ap operandsWidth y ∙ widths .finish) in
+          placed-more n (front ++ b) at count h (longer b (omega arith)) (fault-same at count h v ∙ f) (byte-in-front front at v b ∙ y) (longer b u) ∙ e
+
+      kept-on : (byteAt (front ++ a) at ≡ 0 → ⊥) → Kept n (afterCommand (front ++ a) at) (count + 1) (next h (commandAt (front ++ a) at)) (restAfter n (front ++ a) at count h) →
+          Kept (suc n) at count h (before (placedAt (front ++ a) at h) (restAfter n (front ++ a) at count h))
+      kept-on z ih e =
+          let r = behind (placedAt (front ++ a) at h) (restAfter n (front ++ a) at count h) e in
+          let s : Stands (front ++ a) (afterCommand (front ++ a) at) number offset =
+          subst (Standing (front ++ a) (afterCommand (front ++ a) at)) r
+          (standing n (front ++ a) (afterCommand (front ++ a) at) (count + 1) (next h (commandAt (front ++ a) at)) (faultless (front ++ a) at count h f .whole)) in
+          let y : byteAt (front ++ a) at ≡ byteAt front at = List·getD-append front a 0 at (omega (arith, s .from)) in
+          let v : afterCommand front at ≤ length front = omega (arith, rw y at (s .from)) in
+          let g : restAfter n (front ++ b) at count h ≡ refused number offset =
+          rw (byte-in-front front at v b, command-in-front front at v b) (rw (y, command-in-front front at v a) at (ih r)) in
+          placed-goes n (front ++ b) at count h (longer b (omega arith)) (fault-same at count h v ∙ f) (λ q. z (y ∙ sym (byte-in-front front at v b) ∙ q)) ∙ ap (before (placedAt (front ++ b) at h)) g
+
+  kept : (n at count : ℕ) (h : Held) → Kept n at count h (placedFrom n (front ++ a) at count h)
+  unfolding placedFrom
+  kept zero at count h = λ e. e
+  kept (suc n) at count h =
+      by-cases n (front ++ a) at count h (Kept (suc n) at count h)
+      (λ l e. let q : length (front ++ a) ≡ offset = cc in absurd (beyond q (length-append front a)))
+      (kept-fault n at count h) (λ l f z m. kept-after n at count h l f z) (λ l f z m e. absurd (differ e))
+      (λ l f z. kept-on n at count h l f z (kept n (afterCommand (front ++ a) at) (count + 1) (next h (commandAt (front ++ a) at))))
+    where
+      beyond : length (front ++ a) ≡ offset → length (front ++ a) ≡ length front + length a → ⊥
+      beyond q l = omega arith
+
+      differ : accepted [] ≡ refused number offset → ⊥
+      differ e = let z : _≡_ {A = ℕ} 0 1 = cc in omega arith
+
+module _ (front a b : List ℕ) where
+  -- A job with a refusal stays refused at the same place whatever bytes follow a faulty command that is not cut short: `front`
+  -- is what is kept, and holds that command whole.
+  pub refused-stays : (number offset : ℕ) → placed (front ++ a) ≡ refused number offset →
+      offset + 1 + operandsWidth (byteAt front offset) ≤ length front → placed (front ++ b) ≡ refused number offset
+  unfolding placed
+  refused-stays number offset e w = kept front a b number offset (omega arith) (λ t. w) 4097 0 0 nothing e
+
+  -- and one with bytes after its end stays refused where the first of them is kept
+  pub after-end-stays : (offset : ℕ) → placed (front ++ a) ≡ refused 3 offset → offset < length front → placed (front ++ b) ≡ refused 3 offset
+  unfolding placed
+  after-end-stays offset e w = kept front a b 3 offset w (λ t. absurd (t refl)) 4097 0 0 nothing e
