@@ -1,16 +1,13 @@
 -- The claims of a check and of a verdict bit from those of its demand and its strength. Assumes nothing.
 use mathlib.Core.Logic.{_⊎_, inl, inr}
-use mathlib.Core.Path.{_≡_}
 use mathlib.Core.Bool.{Bool, true, false}
 use Prim.Native.Nat.{ℕ, _+_, _*_, _≤_, _<_}
 use native.Mathlib.Omega.{arith}
-use native.Mathlib.Nat.{le-of-mul-le-mul-right, lt-of-mul-lt-mul-right}
-use lib.IntN.{ℤ}
 use Rattle.exact.specs.Fraction.{Fraction, Proper, _+F_}
 use Rattle.exact.specs.SignedFraction.{SignedFraction, ProperS, wholeS, signed, _≤S_, _<S_, _+S_, _-S_}
 use Rattle.exact.proofs.Multiply.{_·_}
 use Rattle.claims.specs.Exact.{Exact, atLeast, ProperE}
-use Rattle.claims.specs.Claims.{Demand, DemandHolds, NoExcess, ExcessUnder, Strength, StrengthHolds, Check, CheckHolds, Passes, Clear, within}
+use Rattle.claims.specs.Claims.{Demand, DemandHolds, ExcessUnder, StrengthHolds, Check, CheckHolds, Clear, within}
 use Rattle.claims.proofs.Orders.{≤S-trans, ≤S-or, atLeast-mono, pos-mul}
 
 -- a demand whose excess stays under its amount

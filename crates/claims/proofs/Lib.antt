@@ -2,3 +2,4 @@
 pub mod Orders
 pub mod Checks
 pub mod Rounded
+pub mod Bits

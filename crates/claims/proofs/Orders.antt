@@ -2,24 +2,19 @@
 -- at least an exact demand stays so when it grows. Assumes nothing.
 use mathlib.Core.Logic.{_⊎_, inl, inr}
 use mathlib.Core.Path.{_≡_}
-use Prim.Native.Nat.{ℕ, zero, suc, _+_, _-_, _*_, _≤_, _<_}
+use Prim.Native.Nat.{ℕ, _+_, _-_, _*_, _≤_, _<_}
 use native.Mathlib.Omega.{arith}
-use native.Mathlib.Nat.{mul-le-mul, mul-le-mul-right, le-of-mul-le-mul-right, lt-of-mul-lt-mul-right}
+use native.Mathlib.Nat.{mul-le-mul, mul-le-mul-right, le-of-mul-le-mul-right}
 use native.Mathlib.Decide.{decLe}
-use Rattle.exact.specs.Fraction.{Fraction, Proper, times, cube}
-use Rattle.exact.specs.SignedFraction.{SignedFraction, ProperS, signed, wholeS, _≤S_, _<S_, _+S_, _-S_, negS, timesS, cubeS}
+use Rattle.exact.specs.Fraction.{times, cube}
+use Rattle.exact.specs.SignedFraction.{SignedFraction, ProperS, signed, _≤S_, _<S_, timesS, cubeS}
 use Rattle.exact.proofs.Multiply.{_·_}
-use Rattle.claims.specs.Exact.{Exact, value, rootThird, largerOf, smallerOf, atLeast, ProperE}
+use Rattle.claims.specs.Exact.{Exact, value, rootThird, largerOf, smallerOf, atLeast}
 
 -- x ≤ y ≤ z
 pub ≤S-trans : (x y z : SignedFraction) → ProperS y → x ≤S y → y ≤S z → x ≤S z
 ≤S-trans x y z p h k =
     le-of-mul-le-mul-right {k = y .den} (omega (arith, h · (z .den), k · (x .den))) p
-
--- x ≤ y < z
-pub ≤S-<S-trans : (x y z : SignedFraction) → ProperS x → x ≤S y → y <S z → x <S z
-≤S-<S-trans x y z p h k =
-    lt-of-mul-lt-mul-right (y .den) (omega (arith, h · (z .den), k · (x .den), p))
 
 -- x ≤ y or y < x
 pub ≤-or : (a b : ℕ) → (a ≤ b) ⊎ (b < a)
@@ -47,23 +42,23 @@ apart a b = by (≤-or b a)
     by (inl h) = inl (a - b, omega arith)
     by (inr h) = inr (b - a, omega arith)
 
+pub cubed : {x y : ℕ} → x ≤ y → x * x * x ≤ y * y * y
+cubed h = mul-le-mul (mul-le-mul h h) h
+
 -- (a − b)³ ≤ (c − d)³ where a − b ≤ c − d
 cubes : (a b c d : ℕ) → a + d ≤ c + b →
     (a * a * a + 3 * (a * b * b)) + (3 * (c * c * d) + d * d * d) ≤ (c * c * c + 3 * (c * d * d)) + (3 * (a * a * b) + b * b * b)
 cubes a b c d h = by (apart a b) (apart c d)
   where
-    cubed : (x y : ℕ) → x ≤ y → x * x * x ≤ y * y * y
-    cubed x y k = mul-le-mul (mul-le-mul k k) k
-
     by : ((x : ℕ) × (a ≡ b + x)) ⊎ ((x : ℕ) × (b ≡ a + x)) → ((y : ℕ) × (c ≡ d + y)) ⊎ ((y : ℕ) × (d ≡ c + y)) →
         (a * a * a + 3 * (a * b * b)) + (3 * (c * c * d) + d * d * d) ≤ (c * c * c + 3 * (c * d * d)) + (3 * (a * a * b) + b * b * b)
-    by (inl (x, e)) (inl (y, g)) = let k : x ≤ y = omega arith in rw (e, g) (omega (arith, cubed x y k))
+    by (inl (x, e)) (inl (y, g)) = let k : x ≤ y = omega arith in rw (e, g) (omega (arith, cubed k))
     by (inl (x, e)) (inr (y, g)) =
         let k : x ≤ 0 = omega arith in
         let l : y ≤ 0 = omega arith in
-        rw (e, g) (omega (arith, cubed x 0 k, cubed y 0 l))
+        rw (e, g) (omega (arith, cubed k, cubed l))
     by (inr (x, e)) (inl (y, g)) = rw (e, g) (omega arith)
-    by (inr (x, e)) (inr (y, g)) = let k : y ≤ x = omega arith in rw (e, g) (omega (arith, cubed y x k))
+    by (inr (x, e)) (inr (y, g)) = let k : y ≤ x = omega arith in rw (e, g) (omega (arith, cubed k))
 
 -- the cube of a product, and a product with a square
 spread : (p m e : ℕ) → (p * p * p + 3 * (p * m * m)) * (e * e * e) ≡ p * e * (p * e) * (p * e) + 3 * (p * e * (m * e) * (m * e))

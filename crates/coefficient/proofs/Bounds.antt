@@ -1,14 +1,17 @@
 -- The smaller of two fractions, and the bounds of the coefficient for operands in range: a positive denominator, a numerator
--- up to 2·10¹⁰, a denominator up to 10¹⁰, and never above q/100. Assumes nothing.
-use mathlib.Core.Path.{_≡_, refl, sym, ap}
+-- up to 2·10¹⁰, a denominator up to 10¹⁰, never above q/100, and the bounds of its products. Assumes nothing.
+use mathlib.Core.Path.{_≡_, refl, ap}
 use mathlib.Core.Bool.{Bool, true, false, cond}
-use Prim.Native.Nat.{ℕ, zero, suc, _+_, _*_, _≤_, _<_}
+use Prim.Native.Nat.{ℕ, _*_, _≤_, _<_}
 use native.Mathlib.Omega.{arith}
 use native.Mathlib.Nat.{mul-le-mul}
-use lib.Dec.{eqb, leb}
-use borrow.Author.Tests.{leb-true, leb-false, eqb-true, eqb-false, le-leb, lt-leb, eq-eqb, ne-eqb}
-use Rattle.exact.specs.Fraction.{Fraction, Proper, ratio, leF, smaller, _≤F_, _<F_}
-use Rattle.coefficient.specs.Coefficient.{coefficientOf, CoefficientRange}
+use lib.Dec.{eqb}
+use borrow.Author.Tests.{leb-true, leb-false, eqb-false, le-leb, lt-leb, ne-eqb}
+use Rattle.exact.specs.Fraction.{Fraction, Proper, whole, ratio, leF, smaller, upF, _≤F_, _<F_, _*F_}
+use Rattle.exact.proofs.Multiply.{_·_}
+use Rattle.exact.proofs.Rounding.{up-le-of}
+use Rattle.coefficient.specs.declared.Quotient.{Quotient}
+use Rattle.coefficient.specs.Coefficient.{coefficientOf, fraction, CoefficientRange, ProductFits}
 
 -- a claim of both is a claim of the smaller
 pub smaller-either : (x y : Fraction) (P : Fraction → Type 0) → P x → P y → P (smaller x y)
@@ -80,3 +83,20 @@ num-le g R E q h = coefficient-either g R E q (λ x. x .num ≤ 20000000000) (λ
 
 pub den-le : (g R E q : ℕ) → CoefficientRange g R E q → coefficientOf g R E q .den ≤ 10000000000
 den-le g R E q h = coefficient-either g R E q (λ x. x .den ≤ 10000000000) (λ k. omega (arith, h .seismic)) (omega arith)
+
+-- q is at most 400, so a is at most 4, and a·x up at most 4·x
+pub cap-le : (g R E q : ℕ) → q ≤ 400 → coefficientOf g R E q .num ≤ 4 * coefficientOf g R E q .den
+cap-le g R E q h = let a = coefficientOf g R E q in omega (arith, capped g R E q, h · (a .den))
+
+pub product-le : (g R E q x : ℕ) → q ≤ 400 → upF (coefficientOf g R E q *F whole x) ≤ 4 * x
+product-le g R E q x h =
+    let a = coefficientOf g R E q in
+    up-le-of (a .num * x) (a .den * 1) (4 * x) (omega (arith, proper g R E q)) (omega (arith, cap-le g R E q h · x))
+
+-- a·x fits 64 bits
+pub product-fits : (a : Quotient) (x : ℕ) → a .num ≤ 20000000000 → 0 < a .den → x ≤ 100000000 → ProductFits a x
+product-fits a x n d h = record { fits = omega (arith, mul-le-mul n h); positive = d }
+
+pub coefficient-fits : {g R E q x : ℕ} {a : Quotient} → fraction a ≡ coefficientOf g R E q → CoefficientRange g R E q → x ≤ 100000000 → ProductFits a x
+coefficient-fits {g} {R} {E} {q} {x} {a} e r h =
+    product-fits a x (omega (arith, ap (λ (f : Fraction). f .num) e, num-le g R E q r)) (omega (arith, ap (λ (f : Fraction). f .den) e, proper g R E q)) h

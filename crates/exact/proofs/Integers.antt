@@ -1,13 +1,13 @@
 -- The integers read by naturals: z is `above z` less `below z`, with one law for each operation, each order and each range,
 -- so that `omega` proves facts of ℤ: `omega (ints, +ℤ-law x y)`. Assumes nothing.
-use mathlib.Core.Path.{_≡_, refl, sym, ap, _∙_, subst}
+use mathlib.Core.Path.{_≡_, refl, ap, _∙_, subst}
 use mathlib.Core.Bool.{Bool, true, false, not, cond}
 use Prim.Native.Nat.{ℕ, zero, suc, _+_, _-_, _*_, _^_, _≤_, _<_}
 use native.Mathlib.Omega.{arith}
-use lib.Dec.{T, ltb, leb, ltb→lt, nltb→le, leb→le, le→leb, lt→ltb}
+use lib.Dec.{T, ltb, ltb→lt, nltb→le, leb→le, le→leb, lt→ltb}
 use lib.IntN.{ℤ, pos, negsuc, negℤ, subℕ, _+ℤ_, _-ℤ_, _*ℤ_, natAbs}
 use lib.Signed.{mag, leZ, ltZ, _≤ℤ_, _<ℤ_}
-use mir.Syntax.{w64}
+use mir.Syntax.{w32, w64}
 use mir.Val.{SFits, toZ, ofZ}
 use mir.Facts.{toZ-ofZ}
 use Rattle.exact.specs.SignedFraction.{above, below}
@@ -146,6 +146,10 @@ pub ≡-in : (x y : ℤ) → above x + below y ≡ above y + below x → x ≡ y
     none a b h = omega arith
 ≡-in (negsuc a) (negsuc b) h = ap negsuc (omega arith)
 
+-- 0 − z
+pub negated : (z : ℤ) → pos 0 -ℤ z ≡ negℤ z
+negated z = ≡-in (pos 0 -ℤ z) (negℤ z) (omega (arith, -ℤ-law (pos 0) z, above-neg z, below-neg z))
+
 pub ≡-out : {x y : ℤ} → x ≡ y → above x + below y ≡ above y + below x
 ≡-out {x} {y} h = subst (λ (z : ℤ). above x + below z ≡ above z + below x) h (omega arith)
 
@@ -167,11 +171,26 @@ fits-in (negsuc n) h k = record { sfits = k }
 pub fits-size : (x : ℤ) → natAbs x < 2 ^ 63 → SFits w64 x
 fits-size x h = fits-in x (omega (arith, natAbs-law x)) (omega (arith, natAbs-law x))
 
--- a signed number is read back from its bits: of a parameter, by its range, and of a call's result
-pub read-back : {z : ℤ} → SFits w64 z → toZ w64 (ofZ w64 z) ≡ z
-read-back f = toZ-ofZ f
-
+-- a call's result is read back from its bits
 pub returned : {z : ℤ} → mag z < 2 ^ 63 → toZ w64 (ofZ w64 z) ≡ z
 returned h = toZ-ofZ (record { sfits = h })
+
+-- the result by the call's equation
+pub read-as : {z y : ℤ} → z ≡ y → mag z < 2 ^ 63 → toZ w64 (ofZ w64 z) ≡ y
+read-as e h = returned h ∙ e
+
+-- ---- an i32
+
+pub widened : {z : ℤ} → SFits w32 z → SFits w64 z
+widened {z = pos n} f = let h = f .sfits in record { sfits = omega arith }
+widened {z = negsuc n} f = let h = f .sfits in record { sfits = omega arith }
+
+-- an operand of up to 10⁸
+pub read32 : (z : ℤ) → natAbs z ≤ 100000000 → toZ w32 (ofZ w32 z) ≡ z
+read32 z h = toZ-ofZ (fits z h)
+  where
+    fits : (z : ℤ) → natAbs z ≤ 100000000 → SFits w32 z
+    fits (pos n) h = record { sfits = omega arith }
+    fits (negsuc n) h = record { sfits = omega arith }
 
 pub ruleset ints = (arith, ≤ℤ-out, <ℤ-out, ≡-out, fits-above, fits-below, ≤ℤ-in, <ℤ-in)

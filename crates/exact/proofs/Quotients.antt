@@ -1,18 +1,17 @@
 -- What the steps of `floor_div` and `ceil_div` come to, one law for each path, over plain integers. Assumes nothing.
-use mathlib.Core.Path.{_≡_, refl, sym, ap, _∙_, subst}
+use mathlib.Core.Path.{_≡_, refl, sym, subst}
 use mathlib.Core.Bool.{Bool, true, false}
-use Prim.Native.Nat.{ℕ, zero, suc, _+_, _-_, _*_, _/_, _^_, _≤_, _<_}
+use Prim.Native.Nat.{ℕ, zero, suc, _+_, _-_, _/_, _<_}
 use native.Mathlib.Omega.{arith}
-use native.Mathlib.Nat.{div-le-self, zero-div, div-mul-le-self, lt-div-mul-add}
+use native.Mathlib.Nat.{div-le-self, div-mul-le-self, lt-div-mul-add}
 use borrow.Author.Tests.{leb-false, leb-true}
 use lib.Dec.{T, ltb→lt}
 use lib.IntN.{ℤ, pos, negsuc, negℤ, _+ℤ_, _-ℤ_, natAbs}
-use lib.Signed.{_≤ℤ_, _<ℤ_, leZ, quotZ}
+use lib.Signed.{_<ℤ_, leZ, quotZ}
 use mir.Syntax.{w64}
 use mir.Val.{SFits, ofZ}
 use Rattle.exact.specs.Quotient.{up, downℤ, upℤ}
-use Rattle.exact.specs.SignedFraction.{above, below}
-use Rattle.exact.proofs.Integers.{ints, ≡-in, fits-in, +ℤ-law, -ℤ-law, above-neg, below-neg}
+use Rattle.exact.proofs.Integers.{ints, ≡-in, fits-in, -ℤ-law, above-neg, below-neg}
 use Rattle.exact.proofs.Rounding.{upℤ-is, up-is}
 
 -- a divisor above 0 has bits above 0

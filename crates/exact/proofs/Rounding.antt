@@ -1,14 +1,14 @@
 -- The two laws of each rounding of specs/Quotient.antt: n ≤ up·d < n + d and down·d ≤ n < down·d + d, over ℕ and over ℤ,
 -- and that a number between those bounds is the rounded one. Assumes nothing.
-use mathlib.Core.Path.{_≡_, refl, sym, ap, _∙_}
-use Prim.Native.Nat.{ℕ, zero, suc, _+_, _-_, _*_, _/_, _≤_, _<_}
+use mathlib.Core.Path.{_≡_, refl, sym, ap}
+use Prim.Native.Nat.{ℕ, suc, _+_, _-_, _*_, _/_, _≤_, _<_}
 use native.Mathlib.Omega.{arith}
-use native.Mathlib.Nat.{div-mul-le-self, lt-div-mul-add, lt-of-mul-lt-mul-right, mul-le-mul-right, div-le-self}
+use native.Mathlib.Nat.{div-mul-le-self, lt-div-mul-add, lt-of-mul-lt-mul-right, mul-le-mul-right}
 use lib.IntN.{ℤ, pos, negsuc, negℤ, _+ℤ_, _*ℤ_}
 use lib.Signed.{_≤ℤ_, _<ℤ_}
 use Rattle.exact.specs.Quotient.{up, down, upℤ, downℤ}
 use Rattle.exact.specs.SignedFraction.{above, below}
-use Rattle.exact.proofs.Integers.{ints, ≡-in, ≤ℤ-in, <ℤ-in, above-neg, below-neg, *ℤ-law, +ℤ-law}
+use Rattle.exact.proofs.Integers.{≡-in, ≤ℤ-in, <ℤ-in, above-neg, below-neg, *ℤ-law, +ℤ-law}
 
 -- ---- naturals
 
@@ -31,6 +31,13 @@ up-lt n d h = omega (arith, div-mul-le-self (n + (d - 1)) d)
 -- two numbers less than one step apart are equal
 step : (d x y : ℕ) → x * d < y * d + d → x ≤ y
 step d x y h = let k : x < suc y = lt-of-mul-lt-mul-right d (omega arith) in omega arith
+
+-- rounded up, a quotient of at most b is at most b; so it is at most its numerator
+pub up-le-of : (n d b : ℕ) → 0 < d → n ≤ b * d → up n d ≤ b
+up-le-of n d b h l = step d (up n d) b (omega (arith, up-lt n d h))
+
+pub up-le-self : (n d : ℕ) → 0 < d → up n d ≤ n
+up-le-self n d h = up-le-of n d n h (omega (arith, mul-le-mul-right n h))
 
 pub up-is : (n d r : ℕ) → 0 < d → n ≤ r * d → r * d < n + d → r ≡ up n d
 up-is n d r h a b =

@@ -1,7 +1,7 @@
 -- What the steps of the functions on whole + num/den come to, over plain integers. Assumes nothing.
-use mathlib.Core.Path.{_≡_, refl, sym, ap, _∙_, subst}
-use mathlib.Core.Bool.{Bool, true, false}
-use Prim.Native.Nat.{ℕ, zero, suc, _+_, _-_, _*_, _^_, _≤_, _<_}
+use mathlib.Core.Path.{_≡_, refl, ap, _∙_, subst}
+use mathlib.Core.Bool.{true, false}
+use Prim.Native.Nat.{ℕ, suc, _+_, _-_, _*_, _<_}
 use native.Mathlib.Omega.{arith}
 use native.Mathlib.Nat.{one-mul}
 use lib.IntN.{ℤ, pos, negsuc, negℤ, subℕ, _+ℤ_, _-ℤ_, _*ℤ_, natAbs}
@@ -10,7 +10,7 @@ use lib.Dec.{T, ltb→lt}
 use borrow.Author.Tests.{ltb-true}
 use mir.Syntax.{w64}
 use mir.Val.{SFits}
-use Rattle.exact.specs.Quotient.{up, upℤ, downℤ}
+use Rattle.exact.specs.Quotient.{upℤ, downℤ}
 use Rattle.exact.specs.Fraction.{upF}
 use Rattle.exact.specs.SignedFraction.{above, below, wholeS, ratioS, _+S_, upS, downS, size}
 use Rattle.exact.specs.Sums.{SumFits}

@@ -5,9 +5,9 @@ use Prim.Native.Nat.{_+_}
 use native.Mathlib.Omega.{arith}
 use lib.Dec.{eqb}
 use lib.IntN.{pos}
+use lib.Ieee.{binary32, ofBits}
 use Rattle.exact.specs.Quotient.{up, down, upℤ, downℤ}
 use Rattle.exact.specs.Fraction.{smaller}
-use lib.Ieee.{binary32, ofBits}
 use Rattle.soil.specs.Taken.{takeDown}
 use Rattle.soil.specs.Answers.{accepted, refused}
 use Rattle.soil.proofs.Figures.{tangent-0-7, tangent-2, tangent-above-2, tangent-minus-0}

@@ -2,49 +2,31 @@
 -- unrounded N. Assumes nothing.
 use mathlib.Core.Path.{_≡_, refl, sym, ap, _∙_, subst}
 use mathlib.Core.Bool.{Bool, true, false}
-use Prim.Native.Nat.{ℕ, suc, _+_, _-_, _*_, _^_, _≤_, _<_}
+use Prim.Native.Nat.{ℕ, suc, _+_, _-_, _*_, _≤_, _<_}
 use native.Mathlib.Omega.{arith}
 use native.Mathlib.Nat.{mul-zero, mul-le-mul, lt-of-mul-lt-mul-right}
 use lib.Dec.{T}
-use lib.IntN.{ℤ, pos, negsuc, negℤ, subℕ, _-ℤ_, _*ℤ_, natAbs}
-use lib.Signed.{mag, leZ, nonNeg, _<ℤ_}
-use mir.Syntax.{w32, w64}
-use mir.Val.{SFits, Fits, toZ, ofZ}
-use mir.Facts.{toZ-ofZ}
+use lib.IntN.{ℤ, pos, negsuc, negℤ, subℕ, _*ℤ_, natAbs}
+use lib.Signed.{leZ, nonNeg, _<ℤ_}
+use mir.Syntax.{w64}
+use mir.Val.{SFits, Fits}
 use borrow.Author.Tests.{leb-true}
 use Rattle.exact.specs.Quotient.{up}
 use Rattle.exact.specs.Fraction.{Fraction, Proper, ratio, upF}
 use Rattle.exact.specs.SignedFraction.{SignedFraction, ProperS, above, below, wholeS, ratioS, _+S_, size, positive, downS}
 use Rattle.exact.specs.Sums.{SumFits}
 use Rattle.exact.proofs.Multiply.{_·_}
-use Rattle.exact.proofs.Integers.{≡-in, <ℤ-in, above-neg, below-neg, -ℤ-law, natAbs-law, natAbs-neg, natAbs-*ℤ, fits-size, subℕ-law, returned}
-use Rattle.exact.proofs.Rounding.{up-lt, downℤ-le, downℤ-lt}
+use Rattle.exact.proofs.Integers.{<ℤ-in, above-neg, below-neg, natAbs-law, natAbs-neg, natAbs-*ℤ, fits-size, subℕ-law}
+use Rattle.exact.proofs.Rounding.{up-le-of, downℤ-le, downℤ-lt}
 use Rattle.coefficient.specs.declared.Quotient.{Quotient}
 use Rattle.coefficient.specs.Coefficient.{fraction}
 use Rattle.coefficient.specs.Coefficient.{CoefficientRange}
 use Rattle.coefficient.specs.declared.Settings.{Settings}
-use Rattle.coefficient.proofs.Bounds.{num-le, den-le, capped, proper as coefficient-proper}
+use Rattle.coefficient.proofs.Bounds.{num-le, den-le, cap-le, proper as coefficient-proper}
 use Rattle.footing.specs.declared.Footing.{Footing}
 use Rattle.footing.specs.Actions.{footingCoefficient, action}
 use Rattle.footing.specs.Rows.{FootingRange}
 use Rattle.footing.specs.Ranges.{turned, Capped, ActionRange}
-
--- a number of 32 bits fits 64
-pub widened : {z : ℤ} → SFits w32 z → SFits w64 z
-widened {z = pos n} f = let h = f .sfits in record { sfits = omega arith }
-widened {z = negsuc n} f = let h = f .sfits in record { sfits = omega arith }
-
--- an operand in range, as a callee reads it
-pub read-32 : (z : ℤ) → natAbs z ≤ 100000000 → toZ w32 (ofZ w32 z) ≡ z
-read-32 z h = toZ-ofZ (fits z h)
-  where
-    fits : (z : ℤ) → natAbs z ≤ 100000000 → SFits w32 z
-    fits (pos n) h = record { sfits = omega arith }
-    fits (negsuc n) h = record { sfits = omega arith }
-
--- a call's result, as the caller reads it, is what the callee ensures
-pub told : (z w : ℤ) → mag z < 2 ^ 63 → z ≡ w → toZ w64 (ofZ w64 z) ≡ w
-told z w h e = returned h ∙ e
 
 -- ---- the sum V + (± a·E)
 
@@ -63,9 +45,6 @@ action-is true n d v e = rw (above-neg (pos n *ℤ e), below-neg (pos n *ℤ e),
 natAbs-turned : (minus : Bool) (z : ℤ) → natAbs (turned minus z) ≡ natAbs z
 natAbs-turned false z = refl
 natAbs-turned true z = natAbs-neg z
-
-pub negated : (z : ℤ) → pos 0 -ℤ z ≡ negℤ z
-negated z = ≡-in (pos 0 -ℤ z) (negℤ z) (omega (arith, -ℤ-law (pos 0) z, above-neg z, below-neg z))
 
 -- a·E, and its negative
 pub part-fits : (n : ℕ) (e : ℤ) → n ≤ 20000000000 → natAbs e ≤ 100000000 → SFits w64 (pos n *ℤ e)
@@ -96,25 +75,18 @@ pub capped-coefficient : (s : Settings) (f : Footing) (a : Quotient) → Footing
 capped-coefficient s f a r e =
     let range : CoefficientRange (s .foundations) (f .resistance) (f .moment) (s .behaviour) =
     record { overstrength = r .foundations; resistance = r .resistance; seismic = r .moment; behaviour = r .behaviour } in
-    let c = footingCoefficient s f in
     let n = ap (λ (x : Fraction). x .num) e in
     let d = ap (λ (x : Fraction). x .den) e in
-    let q = capped (s .foundations) (f .resistance) (f .moment) (s .behaviour) in
     record {
       positive = omega (arith, d, coefficient-proper (s .foundations) (f .resistance) (f .moment) (s .behaviour));
       num = omega (arith, n, num-le (s .foundations) (f .resistance) (f .moment) (s .behaviour) range);
       den = omega (arith, d, den-le (s .foundations) (f .resistance) (f .moment) (s .behaviour) range);
-      cap = omega (arith, n, d, q, r .behaviour · (c .den));
+      cap = omega (arith, n, d, cap-le (s .foundations) (f .resistance) (f .moment) (s .behaviour) (r .behaviour));
     }
 
 pub proper : (minus : Bool) (a : Fraction) (v e : ℤ) → 0 < a .den → ProperS (action minus a v e)
 proper false a v e h = omega arith
 proper true a v e h = omega arith
-
-up-least : (n d k : ℕ) → 0 < d → n ≤ k * d → up n d ≤ k
-up-least n d k h l =
-    let b : up n d < suc k = lt-of-mul-lt-mul-right d (omega (arith, up-lt n d h)) in
-    omega arith
 
 -- both parts of V ± a·E, for a ≤ 4
 parts : (minus : Bool) (a : Quotient) (v e : ℤ) → ActionRange a v e →
@@ -138,7 +110,7 @@ parts minus a v e r =
 pub size-le : (minus : Bool) (a : Quotient) (v e : ℤ) → ActionRange a v e → upF (size (action minus (fraction a) v e)) ≤ 500000000
 size-le minus a v e r =
     let x = action minus (fraction a) v e in
-    up-least (size x .num) (x .den) 500000000 (proper minus (fraction a) v e (r .coefficient .positive)) (omega (arith, parts minus a v e r))
+    up-le-of (size x .num) (x .den) 500000000 (proper minus (fraction a) v e (r .coefficient .positive)) (omega (arith, parts minus a v e r))
 
 -- ---- N at least 20,000
 
@@ -181,4 +153,4 @@ unsigned z n e h = rw e (tt, record { fits = omega arith })
 
 -- 1000·X/N up, for X at most 5·10⁸
 pub eccentricity-le : (x n : ℕ) → 0 < n → x ≤ 500000000 → up (1000 * x) n ≤ 500000000000
-eccentricity-le x n h k = up-least (1000 * x) n 500000000000 h (omega (arith, mul-le-mul k h))
+eccentricity-le x n h k = up-le-of (1000 * x) n 500000000000 h (omega (arith, mul-le-mul k h))

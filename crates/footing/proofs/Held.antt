@@ -8,7 +8,6 @@ use native.Mathlib.Omega.{arith}
 use lib.Dec.{T, ltb}
 use lib.IntN.{ℤ, pos, natAbs}
 use lib.Signed.{leZ, _≤ℤ_}
-use borrow.Author.Tests.{ltb-false, le-ltb}
 use Rattle.exact.specs.Fraction.{Fraction, Proper, whole, ratio, upF, _≤F_, _<F_, _+F_}
 use Rattle.exact.specs.SignedFraction.{ProperS, signed, size, downS}
 use Rattle.soil.specs.declared.Soil.{Soil}
@@ -21,6 +20,7 @@ use Rattle.claims.specs.declared.Row.{Row}
 use Rattle.claims.specs.Exact.{value}
 use Rattle.claims.specs.Claims.{Check, CheckHolds, StrengthHolds, Hold, plain, check}
 use Rattle.claims.proofs.Checks.{check-holds}
+use Rattle.claims.proofs.Bits.{not-below-ℕ}
 use Rattle.claims.proofs.Rounded.{up-not-below, up-excess}
 use Rattle.footing.specs.declared.Footing.{Footing}
 use Rattle.footing.specs.Actions.{footingCoefficient, action, normal, momentB, momentL, horizontal}
@@ -30,7 +30,7 @@ use Rattle.footing.proofs.Directions.{Force, proper, heavy}
 use Rattle.footing.proofs.Eccentricity.{Reported, eccentricities}
 use Rattle.footing.proofs.Sliding.{Base, Area, areas, granular, cohesive, enough, sliding}
 use Rattle.footing.proofs.Rows.{heavyOf, heavy-is, light-is}
-use Rattle.footing.proofs.Bits.{bit-4, clear-4, verdict}
+use Rattle.footing.proofs.Sides.{bit-4, clear-4, three-hold}
 
 -- ---- the check of one side
 
@@ -138,23 +138,11 @@ module _ (s : Settings) (f : Footing) (minus : Bool) (r : FootingRange s f) (h :
       let off = eccentric (s .behaviour) f a sensitive ex ey in
       let R = slidingResistance f soil ex ey (forceOf s f minus) in
       let H = upF (size (horizontal s f minus)) in
-      let v =
-      verdict (eccentricityCheck sensitive excepted d (f .breadth)) (eccentricityCheck sensitive excepted e (f .length)) (sliding-check soil) off (ltb R H)
+      three-hold (eccentricityCheck sensitive excepted d (f .breadth)) (eccentricityCheck sensitive excepted e (f .length)) (sliding-check soil) off (ltb R H)
       (bit-4 sensitive excepted d (f .breadth)) (bit-4 sensitive excepted e (f .length)) refl
-      (clear-4 f ex ey u w (omega (arith, r .breadth-least)) (omega (arith, r .length-least)) sensitive excepted)
-      (λ k. omega (arith, ltb-false R H k), λ k. le-ltb R H (omega (arith, k))) in
-      record {
-        demands = tt;
-        checks = (
-          eccentricity-holds ex (f .breadth) u (r .breadth-greatest) along-breadth sensitive excepted,
-          (eccentricity-holds ey (f .length) w (r .length-greatest) along-length sensitive excepted, (sliding-holds soil, tt)),
-        );
-        bit1 = v .bit1;
-        bit2 = v .bit2;
-        bit4 = v .bit4;
-        bit8 = v .bit8;
-        bit32 = v .bit32;
-      }
+      (clear-4 f ex ey u w (omega (arith, r .breadth-least)) (omega (arith, r .length-least)) sensitive excepted) (not-below-ℕ R H)
+      (eccentricity-holds ex (f .breadth) u (r .breadth-greatest) along-breadth sensitive excepted)
+      (eccentricity-holds ey (f .length) w (r .length-greatest) along-length sensitive excepted) (sliding-holds soil)
 
 pub footing-holds : (s : Settings) (f : Footing) (soil : Soil) (sensitive minus : Bool) → FootingRange s f →
     pos 20000 ≤ℤ footingRow s f soil sensitive minus .word2 →

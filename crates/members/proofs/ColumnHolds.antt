@@ -6,22 +6,15 @@ use Prim.Native.Nat.{ℕ}
 use native.Mathlib.Omega.{arith}
 use lib.Dec.{ltb}
 use lib.IntN.{pos}
-use Rattle.exact.specs.Fraction.{Fraction, Proper, whole, upF}
+use Rattle.exact.specs.Fraction.{Proper, whole, upF}
 use Rattle.exact.specs.SignedFraction.{signed}
 use Rattle.claims.specs.Exact.{value}
-use Rattle.claims.specs.Claims.{Check, CheckHolds, Hold, plain, operand, check}
-use Rattle.claims.proofs.Checks.{check-holds}
-use Rattle.claims.proofs.Rounded.{up-not-below, up-excess, operand-strength}
+use Rattle.claims.specs.Claims.{Check, Hold, plain, operand, check}
+use Rattle.claims.proofs.Rounded.{up-check}
 use Rattle.members.specs.declared.Column.{Column}
 use Rattle.members.specs.Column.{columnShear, columnRow, columnClaims, ColumnRange}
-use Rattle.members.proofs.Bits.{flags, holds, none-raised, one-raised, not-below-ℕ}
+use Rattle.claims.proofs.Bits.{flags, holds, none-raised, one-raised, not-below-ℕ}
 use Rattle.members.proofs.Steps.{smaller-proper}
-
--- a fraction rounded up, against a strength
-up-check : (x : Fraction) (s : ℕ) → Proper x → CheckHolds (check 1 (plain (pos (upF x)) (value (signed x)) (whole 1)) (operand (pos s) s))
-up-check x s p =
-    check-holds (check 1 (plain (pos (upF x)) (value (signed x)) (whole 1)) (operand (pos s) s)) p (omega arith) (up-not-below x p) (λ g. up-excess x p)
-    (operand-strength (pos s)) (λ k. tt)
 
 pub column-holds : (q : ℕ) (c : Column) → ColumnRange q c → Hold (columnClaims q c (columnRow q c))
 unfolding columnClaims columnRow
@@ -32,6 +25,6 @@ column-holds q c r =
     let k : Check = check 1 (plain (pos (upF x)) (value (signed x)) (whole 1)) (operand (pos n) n) in
     let t = ltb n (upF x) in
     let ks : List Check = k ∷ [] in
-    holds (columnClaims q c (columnRow q c)) (flags t false false false false false false false) (ap pos (omega arith)) tt (up-check x n p, tt)
-    (one-raised 1 k t refl (not-below-ℕ n (upF x)))
+    holds (columnClaims q c (columnRow q c)) (flags t false false false false false false false) (ap pos (omega arith)) tt (up-check 1 x n p, tt)
+    (one-raised 1 k [] t refl tt (not-below-ℕ n (upF x)))
     (none-raised 2 ks tt) (none-raised 4 ks tt) (none-raised 8 ks tt) (none-raised 32 ks tt)

@@ -14,7 +14,7 @@ use Rattle.claims.specs.Claims.{Check, CheckHolds, Hold, plain, operand, check}
 use Rattle.claims.proofs.Rounded.{operand-strength}
 use Rattle.members.specs.declared.Detail.{Detail}
 use Rattle.members.specs.Detail.{detailDemand, detailLimit, detailRow, detailClaims, DetailRange}
-use Rattle.members.proofs.Bits.{flags, holds, none-raised, one-raised, not-below-ℕ}
+use Rattle.claims.proofs.Bits.{flags, holds, none-raised, one-raised, not-below-ℕ}
 
 -- a whole number that is its own exact value, against a strength
 whole-check : (n s : ℕ) → CheckHolds (check 32 (plain (pos n) (value (wholeS (pos n))) (whole 0)) (operand (pos s) s))
@@ -36,4 +36,4 @@ detail-holds d r =
     let ks : List Check = k ∷ [] in
     holds (detailClaims d (detailRow d)) (flags false false false false false t (eqb (d .place) 2 && eqb (d .lap) 1) false) (ap pos (omega arith)) tt (whole-check n s, tt)
     (none-raised 1 ks tt) (none-raised 2 ks tt) (none-raised 4 ks tt) (none-raised 8 ks tt)
-    (one-raised 32 k t refl (not-below-ℕ s n))
+    (one-raised 32 k [] t refl tt (not-below-ℕ s n))

@@ -24,7 +24,7 @@ use Rattle.members.specs.Column.{columnShear, columnRow, ColumnRange}
 use Rattle.members.specs.Beam.{beamShear, upperShear, lowerShear, beamRow, BeamRange}
 use Rattle.members.specs.Hingeless.{roundedShear, hingelessRow, HingelessRange}
 use Rattle.members.specs.Detail.{detailDemand, detailLimit, detailRow, DetailRange}
-use Rattle.members.proofs.Bits.{flag-le}
+use Rattle.claims.proofs.Bits.{flag-le}
 use Rattle.members.proofs.Steps.{Bounded, smaller-proper, smaller-bounded, up-at-most-second, natAbs-minus, fits64, shear-at-most}
 
 pub record RowFits (r : Row) : Type 0 where

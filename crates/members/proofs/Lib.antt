@@ -1,5 +1,4 @@
 -- What callers cite: the claims of each row hold, and each word of a row fits an i64.
-pub mod Bits
 pub mod Steps
 pub mod Rows
 pub mod Shears

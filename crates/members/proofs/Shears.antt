@@ -12,7 +12,7 @@ use Rattle.exact.specs.SignedFraction.{SignedFraction, negS}
 use Rattle.claims.specs.Exact.{value}
 use Rattle.claims.specs.Verdict.{flag}
 use Rattle.claims.specs.Claims.{Check, CheckHolds, Claims, Hold, plain, operand, check}
-use Rattle.members.proofs.Bits.{flags, holds, none-raised, one-raised, more-raised, not-below}
+use Rattle.claims.proofs.Bits.{flags, holds, none-raised, two-raised, neither, not-below}
 
 -- the check of an upper shear, of exact value x, and of minus a lower one, of exact value y
 abbrev pub upperCheck : ℤ → SignedFraction → Fraction → ℕ → Check
@@ -36,5 +36,5 @@ shears-hold upper lower x y amount s h k =
     let v = ltZ (pos s) (negℤ lower) in
     let c : Claims = record { demands = []; checks = ks; verdict = pos (flag 1 (t || v)) } in
     holds c (flags (t || v) false false false false false false false) (ap pos (omega arith)) tt (h, (k, tt))
-    (more-raised 1 u (l ∷ []) t v refl (not-below (pos s) upper) (one-raised 1 l v refl (not-below (pos s) (negℤ lower))))
+    (two-raised 1 u l [] (t || v) refl refl tt (neither t v (not-below (pos s) upper) (not-below (pos s) (negℤ lower))))
     (none-raised 2 ks tt) (none-raised 4 ks tt) (none-raised 8 ks tt) (none-raised 32 ks tt)

@@ -1,26 +1,25 @@
 -- What the steps of the functions come to, over plain numbers: bounds, signed numbers read back, and rows put together. Assumes nothing.
-use mathlib.Core.Path.{_≡_, refl, sym, ap, _∙_, subst}
+use mathlib.Core.Path.{_≡_, refl, sym, subst}
 use mathlib.Core.Bool.{Bool, true, false}
-use Prim.Native.Nat.{ℕ, _+_, _*_, _^_, _≤_, _<_}
+use Prim.Native.Nat.{ℕ, _+_, _*_, _≤_, _<_}
 use native.Mathlib.Omega.{arith}
-use native.Mathlib.Nat.{mul-le-mul, mul-le-mul-left, lt-of-mul-lt-mul-right}
+use native.Mathlib.Nat.{mul-le-mul, mul-le-mul-left}
 use lib.Dec.{T}
-use lib.IntN.{ℤ, pos, negsuc, negℤ, natAbs, _-ℤ_}
-use lib.Signed.{mag, ltZ}
-use mir.Syntax.{w32, w64}
+use lib.IntN.{ℤ, pos, negℤ, natAbs, _-ℤ_}
+use lib.Signed.{ltZ}
+use mir.Syntax.{w64}
 use mir.Val.{SFits, toZ, ofZ}
 use mir.Facts.{toZ-ofZ}
 use Rattle.exact.specs.Quotient.{up}
-use Rattle.exact.specs.Fraction.{Fraction, Proper, ratio, whole, smaller, upF, _*F_, _≤F_}
+use Rattle.exact.specs.Fraction.{Fraction, Proper, ratio, whole, smaller, upF, _*F_}
 use Rattle.exact.specs.SignedFraction.{wholeS, signed, ratioS, _+S_, _-S_, downS}
 use Rattle.exact.specs.Sums.{SumFits}
-use Rattle.exact.proofs.Integers.{≡-in, <ℤ-in, <ℤ-out, fits-size, -ℤ-law, above-neg, below-neg, natAbs-+ℤ, natAbs-neg}
-use Rattle.exact.proofs.Multiply.{_·_}
-use Rattle.exact.proofs.Rounding.{up-lt}
+use Rattle.exact.proofs.Integers.{<ℤ-in, <ℤ-out, fits-size, negated, above-neg, below-neg, natAbs-+ℤ, natAbs-neg}
+use Rattle.exact.proofs.Rounding.{up-le-of, up-le-self}
 use Rattle.coefficient.specs.declared.Quotient.{Quotient}
 use Rattle.coefficient.specs.declared.Settings.{Settings}
-use Rattle.coefficient.specs.Coefficient.{fraction, coefficientOf, CoefficientRange, ProductFits}
-use Rattle.coefficient.proofs.Bounds.{smaller-either, smaller-≤-second, proper, capped, num-le}
+use Rattle.coefficient.specs.Coefficient.{fraction, coefficientOf}
+use Rattle.coefficient.proofs.Bounds.{smaller-either, smaller-≤-second, product-le}
 use Rattle.members.specs.declared.Joint.{Joint}
 use Rattle.members.specs.declared.Hingeless.{Hingeless}
 use Rattle.members.specs.Hingeless.{endMoment, roundedShear, HingelessRange}
@@ -28,29 +27,15 @@ use Rattle.members.specs.Steps.{ShearRange, AddRange}
 
 -- ---- signed numbers
 
--- V0 as an i32, and as an i64
-fits32 : (z : ℤ) → natAbs z ≤ 100000000 → SFits w32 z
-fits32 (pos n) h = record { sfits = omega arith }
-fits32 (negsuc n) h = record { sfits = omega arith }
-
-pub read32 : (z : ℤ) → natAbs z ≤ 100000000 → toZ w32 (ofZ w32 z) ≡ z
-read32 z h = toZ-ofZ (fits32 z h)
-
+-- a size of up to 10¹²
 pub fits64 : (z : ℤ) → natAbs z ≤ 1000000000000 → SFits w64 z
 fits64 z h = fits-size z (omega arith)
 
 pub read64 : (z : ℤ) → natAbs z ≤ 1000000000000 → toZ w64 (ofZ w64 z) ≡ z
 read64 z h = toZ-ofZ (fits64 z h)
 
--- what a call returned, by its equation
-pub read-as : {z y : ℤ} → z ≡ y → mag z < 2 ^ 63 → toZ w64 (ofZ w64 z) ≡ y
-read-as e h = toZ-ofZ (record { sfits = h }) ∙ e
-
 pub natAbs-minus : (x y : ℤ) → natAbs (x -ℤ y) ≤ natAbs x + natAbs y
 natAbs-minus x y = omega (arith, natAbs-+ℤ x (negℤ y), natAbs-neg y)
-
-pub zero-minus : (n : ℕ) → pos 0 -ℤ pos n ≡ negℤ (pos n)
-zero-minus n = ≡-in (pos 0 -ℤ pos n) (negℤ (pos n)) (omega (arith, -ℤ-law (pos 0) (pos n), above-neg (pos n), below-neg (pos n)))
 
 -- ---- the shear of column and beam
 
@@ -78,12 +63,7 @@ bounded {k} {S} {l} {q} {VE} {d} D e r h g = subst Bounded (sym e) (smaller-boun
 pub up-at-most-second : (x y : Fraction) → Proper (smaller x y) → Proper y → upF (smaller x y) ≤ y .num
 up-at-most-second x y p h =
     let s = smaller x y in
-    let k : s .num ≤ y .num * s .den = omega (arith, smaller-≤-second x y, mul-le-mul-left (s .num) h) in
-    let l : upF s < y .num + 1 = lt-of-mul-lt-mul-right (s .den) (omega (arith, up-lt (s .num) (s .den) p)) in
-    omega arith
-
-pub up-at-most : (n d : ℕ) → 0 < d → up n d ≤ n
-up-at-most n d h = let k : up n d < n + 1 = lt-of-mul-lt-mul-right d (omega (arith, up-lt n d h, mul-le-mul-left n h)) in omega arith
+    up-le-of (s .num) (s .den) (y .num) p (omega (arith, smaller-≤-second x y, mul-le-mul-left (s .num) h))
 
 -- ---- V0 plus or minus D
 
@@ -98,11 +78,11 @@ pub difference-fits : (V0 : ℤ) (D : Quotient) → AddRange V0 D → SumFits V0
 difference-fits V0 D r =
     record {
       positive = sum-fits V0 D r .positive;
-      fits = rw (zero-minus (D .num), natAbs-neg (pos (D .num))) (omega (arith, mul-le-mul (r .nonseismic) (r .den), r .num));
+      fits = rw (negated (pos (D .num)), natAbs-neg (pos (D .num))) (omega (arith, mul-le-mul (r .nonseismic) (r .den), r .num));
     }
 
 pub difference : (V0 : ℤ) (n d : ℕ) → downS (wholeS V0 +S ratioS (pos 0 -ℤ pos n) d) ≡ downS (wholeS V0 -S signed (ratio n d))
-difference V0 n d = rw (zero-minus n, above-neg (pos n), below-neg (pos n))
+difference V0 n d = rw (negated (pos n), above-neg (pos n), below-neg (pos n))
 
 -- ---- the verdict of two shears
 
@@ -114,7 +94,7 @@ same false false f g = refl
 
 -- minus lower exceeds VR where lower is below minus VR
 pub lower-test : (n : ℕ) (l : ℤ) → ltZ l (pos 0 -ℤ pos n) ≡ ltZ (pos n) (negℤ l)
-lower-test n l = rw (zero-minus n) (same (ltZ l (negℤ (pos n))) (ltZ (pos n) (negℤ l)) there back)
+lower-test n l = rw (negated (pos n)) (same (ltZ l (negℤ (pos n))) (ltZ (pos n) (negℤ l)) there back)
   where
     there : T (ltZ l (negℤ (pos n))) → T (ltZ (pos n) (negℤ l))
     there t =
@@ -128,20 +108,8 @@ lower-test n l = rw (zero-minus n) (same (ltZ l (negℤ (pos n))) (ltZ (pos n) (
 
 -- ---- the moments and the shear of a member without hinges
 
-pub product-fits : (g R E q x : ℕ) (a : Quotient) → CoefficientRange g R E q → x ≤ 100000000 → fraction a ≡ coefficientOf g R E q → ProductFits a x
-product-fits g R E q x a r h e =
-    let n : a .num ≤ 20000000000 = rw (ap (λ (f : Fraction). f .num) e) (num-le g R E q r) in
-    record { fits = omega (arith, mul-le-mul n h); positive = rw (ap (λ (f : Fraction). f .den) e) (proper g R E q) }
-
--- a is at most 4, so m is at most 4·ME
-pub product-at-most : (a : Fraction) (q x : ℕ) → Proper a → a ≤F ratio q 100 → q ≤ 400 → upF (a *F whole x) ≤ 4 * x
-product-at-most a q x p c h =
-    let k : a .num ≤ 4 * a .den = omega (arith, h · (a .den)) in
-    let l : upF (a *F whole x) < 4 * x + 1 = lt-of-mul-lt-mul-right (a .den) (omega (arith, up-lt (a .num * x) (a .den * 1) (omega arith), k · x)) in
-    omega arith
-
 pub end-at-most : (g R E q x m : ℕ) → m ≡ upF (coefficientOf g R E q *F whole x) → q ≤ 400 → x ≤ 100000000 → m ≤ 400000000
-end-at-most g R E q x m e c h = omega (arith, e, product-at-most (coefficientOf g R E q) q x (proper g R E q) (capped g R E q) c)
+end-at-most g R E q x m e c h = omega (arith, e, product-le g R E q x c)
 
 pub shear-at-most : (s : Settings) (j1 j2 : Joint) (m : Hingeless) → HingelessRange s j1 j2 m → roundedShear s j1 j2 m ≤ 800000000000
 shear-at-most s j1 j2 m r =
@@ -150,4 +118,4 @@ shear-at-most s j1 j2 m r =
     at-most m1 m2 (m .length) (end-at-most _ _ _ _ _ m1 refl (r .behaviour) (r .moment1)) (end-at-most _ _ _ _ _ m2 refl (r .behaviour) (r .moment2)) (r .length-least)
   where
     at-most : (m1 m2 l : ℕ) → m1 ≤ 400000000 → m2 ≤ 400000000 → 500 ≤ l → up (1000 * (m1 + m2)) l ≤ 800000000000
-    at-most m1 m2 l a b h = omega (arith, up-at-most (1000 * (m1 + m2)) l (omega arith))
+    at-most m1 m2 l a b h = omega (arith, up-le-self (1000 * (m1 + m2)) l (omega arith))

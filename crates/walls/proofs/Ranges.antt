@@ -1,33 +1,14 @@
 -- Every value of a row of a wall fits its word, for running values and operands in range. Assumes nothing.
-use mathlib.Core.Path.{_≡_, ap}
-use mathlib.Core.Bool.{Bool, true, false}
-use Prim.Native.Nat.{ℕ, _+_, _^_, _≤_, _<_, max}
+use Prim.Native.Nat.{ℕ, _^_, _≤_, _<_, max}
 use native.Mathlib.Omega.{arith}
-use native.Mathlib.Nat.{mul-le-mul, lt-of-mul-lt-mul-right, max-le, min-le-right, le-trans}
+use native.Mathlib.Nat.{mul-le-mul, max-le, min-le-right, le-trans}
 use Rattle.exact.specs.Quotient.{up}
 use Rattle.exact.specs.Fraction.{Fraction}
-use Rattle.exact.proofs.Rounding.{up-lt}
-use Rattle.exact.proofs.Multiply.{_·_}
-use Rattle.claims.specs.Verdict.{flag}
+use Rattle.exact.proofs.Rounding.{up-le-self}
 use Rattle.coefficient.specs.declared.Quotient.{Quotient}
-use Rattle.coefficient.specs.Coefficient.{fraction, coefficientOf, CoefficientRange, ProductFits}
-use Rattle.coefficient.proofs.Bounds.{proper, num-le}
+use Rattle.coefficient.specs.Coefficient.{fraction}
 use Rattle.walls.specs.Base.{designMoment}
 use Rattle.walls.specs.Storey.{designShear}
-
--- rounded up, a quotient is at most its numerator
-pub up-le-self : (n d : ℕ) → 0 < d → up n d ≤ n
-up-le-self n d h =
-    let k : up n d < n + 1 = lt-of-mul-lt-mul-right d (omega (arith, up-lt n d h, h · n)) in
-    omega arith
-
--- a·x fits: of running values, and of a coefficient
-pub product-fits : (a : Quotient) (x : ℕ) → a .num ≤ 20000000000 → 0 < a .den → x ≤ 100000000 → ProductFits a x
-product-fits a x n d h = record { fits = omega (arith, mul-le-mul n h); positive = d }
-
-pub coefficient-fits : {g R E q x : ℕ} {a : Quotient} → fraction a ≡ coefficientOf g R E q → CoefficientRange g R E q → x ≤ 100000000 → ProductFits a x
-coefficient-fits {g} {R} {E} {q} {x} {a} e r h =
-    product-fits a x (omega (arith, ap (λ (f : Fraction). f .num) e, num-le g R E q r)) (omega (arith, ap (λ (f : Fraction). f .den) e, proper g R E q)) h
 
 -- the larger of two quotients, rounded up, is at most what both numerators are
 larger-le : (n d m e top : ℕ) → 0 < d → 0 < e → n ≤ top → m ≤ top → max (up n d) (up m e) ≤ top
@@ -43,7 +24,3 @@ shear-fits a k x base n d h i j =
 -- a moment is at most MR
 pub moment-le : (a : Fraction) (k x resistance : ℕ) → designMoment a k x resistance ≤ resistance
 moment-le a k x resistance = min-le-right _ resistance
-
-pub flag-le : (bit : ℕ) (f : Bool) → flag bit f ≤ bit
-flag-le bit true = omega arith
-flag-le bit false = omega arith

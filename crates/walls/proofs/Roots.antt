@@ -2,7 +2,7 @@
 -- below it. So k·w/3000 is not below c·w/3, and (k − 1)·w/3000 is below it. Assumes nothing.
 use Prim.Native.Nat.{ℕ, _-_, _*_, _^_, _≤_, _<_}
 use native.Mathlib.Omega.{arith}
-use native.Mathlib.Nat.{mul-le-mul, le-of-mul-le-mul-right}
+use native.Mathlib.Nat.{le-of-mul-le-mul-right}
 use lib.IntN.{pos}
 use Rattle.exact.specs.Fraction.{Fraction, Proper, ratio}
 use Rattle.exact.specs.SignedFraction.{signed, wholeS}
@@ -10,13 +10,9 @@ use Rattle.exact.proofs.Multiply.{_·_}
 use Rattle.cubes.specs.Root.{Least}
 use Rattle.cubes.proofs.Roots.{least-before}
 use Rattle.claims.specs.Exact.{rootThird, atLeast}
-use Rattle.claims.proofs.Orders.{pos-mul, pos-cube}
+use Rattle.claims.proofs.Orders.{pos-mul, pos-cube, cubed}
 
 -- ---- numbers
-
--- cubes keep the order
-cubed : {x y : ℕ} → x ≤ y → x * x * x ≤ y * y * y
-cubed h = mul-le-mul (mul-le-mul h h) h
 
 -- where 3000·v·d ≥ k·n and k³·j0 ≥ 10⁹·j: 27·v³·j0·d³ ≥ j·n³
 reached : (j j0 k n d v : ℕ) → 10 ^ 9 * j ≤ k * k * k * j0 → k * n ≤ 3000 * v * d → j * (n * n * n) ≤ 27 * j0 * (v * v * v) * (d * d * d)

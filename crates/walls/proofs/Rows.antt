@@ -1,9 +1,8 @@
 -- Demand 3 of the rows of a wall: all that is claimed of a wall base, and of a storey with 1 ≤ J ≤ J0, holds. Assumes nothing.
-use mathlib.Core.Logic.{_↔_}
 use mathlib.Core.Path.{_≡_, refl, ap}
 use mathlib.Core.Bool.{Bool, false}
-use mathlib.Core.List.{[], _∷_}
-use Prim.Native.Nat.{ℕ, _+_, _*_, _≤_, _<_, min, max}
+use mathlib.Core.List.{List, [], _∷_}
+use Prim.Native.Nat.{ℕ, _*_, _≤_, _<_, min, max}
 use native.Mathlib.Omega.{arith}
 use native.Mathlib.Nat.{min-le-left, min-le-right}
 use lib.Dec.{leb, ltb}
@@ -16,15 +15,14 @@ use Rattle.cubes.proofs.Roots.{leastRoot-within, leastRoot-least}
 use Rattle.cubes.proofs.Figures.{same}
 use Rattle.coefficient.proofs.Bounds.{proper}
 use Rattle.claims.specs.Exact.{Exact, value, largerOf, rootThird}
-use Rattle.claims.specs.Claims.{Check, CheckHolds, DemandHolds, AllPass, BitClear, Hold, plain, operand, check}
-use Rattle.claims.specs.Verdict.{flag}
+use Rattle.claims.specs.Claims.{Check, CheckHolds, DemandHolds, Hold, plain, operand, check}
 use Rattle.claims.proofs.Checks.{check-holds, demand-holds}
-use Rattle.claims.proofs.Rounded.{up-not-below, up-excess, operand-strength}
+use Rattle.claims.proofs.Rounded.{operand-strength, up-check}
+use Rattle.claims.proofs.Bits.{flags, holds, none-raised, one-raised, other-raised, not-below-ℕ}
 use Rattle.walls.specs.declared.WallBase.{WallBase}
 use Rattle.walls.specs.declared.Storey.{Storey}
 use Rattle.walls.specs.Base.{wallCoefficient, exactBaseShear, baseShear, baseMoment, exactBaseMoment, baseRowFrom, baseRow, baseClaims, designMoment}
 use Rattle.walls.specs.Storey.{designShear, storeyRowFrom, storeyRow, exactStoreyShear, exactStoreyMoment, shearAmount, momentAmount, storeyClaims, StoreyRange}
-use Rattle.walls.proofs.Bits.{BitIs, computed, bit-of, test-passes, own, other, chain, unset}
 use Rattle.walls.proofs.Demands.{third-of-up, third-of-whole, third-of-thousand, larger-not-below, larger-excess, two-not-below, two-excess, capped-not-below, capped-excess}
 
 -- ---- the wall base
@@ -38,9 +36,7 @@ module _ (q : ℕ) (b : WallBase) where
   base-check = check 1 (plain (pos (baseShear q b)) (value (signed (exactBaseShear q b))) (whole 1)) (operand (pos (b .strength)) (b .strength))
 
   base-check-holds : CheckHolds base-check
-  base-check-holds =
-      let p = proper-product (b .shear) in
-      check-holds base-check p (omega arith) (up-not-below (exactBaseShear q b) p) (λ _. up-excess (exactBaseShear q b) p) (operand-strength (pos (b .strength))) (λ _. tt)
+  base-check-holds = up-check 1 (exactBaseShear q b) (b .strength) (proper-product (b .shear))
 
   -- the exact moment before its cap, and the rounded one
   abbrev base-uncapped : Exact
@@ -75,25 +71,14 @@ module _ (q : ℕ) (b : WallBase) where
   abbrev base-short : Bool
   base-short = leb (b .length) (4 * b .thickness)
 
-  -- a bit that no check of a base has
-  no-base-bit : (bit : ℕ) → BitIs 1 128 bit (λ f g. false) → (1 ≡ bit → ⊥) →
-      BitClear bit (pos (flag 1 base-failed + flag 128 base-short)) ↔ AllPass bit (base-check ∷ [])
-  no-base-bit bit t m = other bit base-check [] m (unset (bit-of 1 128 bit (λ f g. false) t base-failed base-short))
-
   pub base-holds : Hold (baseClaims q b (baseRow q b))
   unfolding baseClaims baseRow baseRowFrom
   base-holds =
-      record {
-        demands = (base-moment-holds, tt);
-        checks = (base-check-holds, tt);
-        bit1 =
-            own 1 base-check [] refl tt
-            (chain (bit-of 1 128 1 (λ f g. f) computed base-failed base-short) (test-passes (b .strength) (baseShear q b)));
-        bit2 = no-base-bit 2 computed (λ e. omega arith);
-        bit4 = no-base-bit 4 computed (λ e. omega arith);
-        bit8 = no-base-bit 8 computed (λ e. omega arith);
-        bit32 = no-base-bit 32 computed (λ e. omega arith);
-      }
+      let ks : List Check = base-check ∷ [] in
+      holds (baseClaims q b (baseRow q b)) (flags base-failed false false false false false false base-short) (ap pos (omega arith))
+      (base-moment-holds, tt) (base-check-holds, tt)
+      (one-raised 1 base-check [] base-failed refl tt (not-below-ℕ (b .strength) (baseShear q b)))
+      (none-raised 2 ks tt) (none-raised 4 ks tt) (none-raised 8 ks tt) (none-raised 32 ks tt)
 
 -- ---- a storey
 
@@ -160,28 +145,13 @@ module _ (q : ℕ) (b : WallBase) (s : Storey) (range : StoreyRange s) where
   abbrev moment-failed : Bool
   moment-failed = ltb (s .resistance) storey-moment
 
-  -- a bit that no check of a storey has
-  no-storey-bit : (bit : ℕ) → BitIs 1 2 bit (λ f g. false) → (1 ≡ bit → ⊥) → (2 ≡ bit → ⊥) →
-      BitClear bit (pos (flag 1 shear-failed + flag 2 moment-failed)) ↔ AllPass bit (shear-check ∷ moment-check ∷ [])
-  no-storey-bit bit t m n =
-      other bit shear-check (moment-check ∷ []) m (other bit moment-check [] n (unset (bit-of 1 2 bit (λ f g. false) t shear-failed moment-failed)))
-
   pub storey-holds : Hold (storeyClaims q b s (storeyRow q b s))
   unfolding storeyClaims storeyRow storeyRowFrom
   storey-holds =
-      record {
-        demands = tt;
-        checks = (shear-check-holds, (moment-check-holds, tt));
-        bit1 =
-            own 1 shear-check (moment-check ∷ []) refl (λ e. absurd (two-one e), tt)
-            (chain (bit-of 1 2 1 (λ f g. f) computed shear-failed moment-failed) (test-passes (s .strength) storey-shear));
-        bit2 =
-            other 2 shear-check (moment-check ∷ []) (λ e. omega arith)
-            (own 2 moment-check [] refl tt (chain (bit-of 1 2 2 (λ f g. g) computed shear-failed moment-failed) (test-passes (s .resistance) storey-moment)));
-        bit4 = no-storey-bit 4 computed (λ e. omega arith) (λ e. omega arith);
-        bit8 = no-storey-bit 8 computed (λ e. omega arith) (λ e. omega arith);
-        bit32 = no-storey-bit 32 computed (λ e. omega arith) (λ e. omega arith);
-      }
-    where
-      two-one : _≡_ {A = ℕ} 2 1 → ⊥
-      two-one e = omega arith
+      let ks : List Check = shear-check ∷ moment-check ∷ [] in
+      holds (storeyClaims q b s (storeyRow q b s)) (flags shear-failed moment-failed false false false false false false) (ap pos (omega arith))
+      tt (shear-check-holds, (moment-check-holds, tt))
+      (one-raised 1 shear-check (moment-check ∷ []) shear-failed refl tt (not-below-ℕ (s .strength) storey-shear))
+      (other-raised 2 shear-check (moment-check ∷ []) moment-failed (λ e. omega arith)
+      (one-raised 2 moment-check [] moment-failed refl tt (not-below-ℕ (s .resistance) storey-moment)))
+      (none-raised 4 ks tt) (none-raised 8 ks tt) (none-raised 32 ks tt)

@@ -1,16 +1,12 @@
 -- The running values of a wall: those of every base in range are in range, and the rows made from them are the rows of their base.
 -- Assumes nothing.
 use mathlib.Core.Path.{_≡_, refl, ap}
-use Prim.Native.Nat.{ℕ, _+_, _*_, _≤_, _<_}
+use Prim.Native.Nat.{ℕ, _*_, _≤_}
 use native.Mathlib.Omega.{arith}
-use native.Mathlib.Nat.{mul-le-mul, lt-of-mul-lt-mul-right}
-use Rattle.exact.specs.Quotient.{up}
 use Rattle.exact.specs.Fraction.{Fraction, whole, upF, _*F_}
-use Rattle.exact.proofs.Rounding.{up-lt}
-use Rattle.exact.proofs.Multiply.{_·_}
 use Rattle.coefficient.specs.declared.Quotient.{Quotient}
 use Rattle.coefficient.specs.Coefficient.{fraction, CoefficientRange}
-use Rattle.coefficient.proofs.Bounds.{proper, capped, num-le}
+use Rattle.coefficient.proofs.Bounds.{proper, num-le, product-le}
 use Rattle.walls.specs.declared.Wall.{Wall}
 use Rattle.walls.specs.declared.WallBase.{WallBase}
 use Rattle.walls.specs.declared.Storey.{Storey}
@@ -20,25 +16,12 @@ use Rattle.walls.specs.Running.{wallOf, WallRange}
 
 -- ---- ranges
 
--- rounded up, a quotient of at most b is at most b
-pub up-le-of : (n d b : ℕ) → 0 < d → n ≤ b * d → up n d ≤ b
-up-le-of n d b h l =
-    let k : up n d < b + 1 = lt-of-mul-lt-mul-right d (omega (arith, up-lt n d h)) in
-    omega arith
-
 pub coefficient-range : (q : ℕ) (b : WallBase) → WallBaseRange q b → CoefficientRange 130 (b .resistance) (b .moment) q
 coefficient-range q b r =
     record { overstrength = omega arith; resistance = r .resistance; seismic = r .moment; behaviour = r .behaviour }
 
--- a·x is at most 4·10⁸, since a is at most q/100
-capped-product : (n d q x : ℕ) → n * 100 ≤ q * d → q ≤ 400 → x ≤ 100000000 → n * x ≤ 400000000 * d
-capped-product n d q x c h k = omega (arith, c · x, mul-le-mul h k · d)
-
 pub baseShear-le : (q : ℕ) (b : WallBase) → WallBaseRange q b → baseShear q b ≤ 400000000
-baseShear-le q b r =
-    let a = wallCoefficient q b in
-    up-le-of (a .num * b .shear) (a .den * 1) 400000000 (omega (arith, proper 130 (b .resistance) (b .moment) q))
-    (omega (arith, capped-product (a .num) (a .den) q (b .shear) (capped 130 (b .resistance) (b .moment) q) (r .behaviour) (r .shear)))
+baseShear-le q b r = omega (arith, product-le 130 (b .resistance) (b .moment) q (b .shear) (r .behaviour), r .shear)
 
 pub wallOf-range : (q : ℕ) (b : WallBase) → WallBaseRange q b → WallRange (wallOf q b)
 unfolding wallOf

@@ -1,7 +1,7 @@
 -- `exact::sum_down` meets its contract: whole·den + num fits, and its quotient is that of the sum (SumSteps.antt). Assumes nothing.
 use mir.Facts.{toZ-ofZ}
 use Rattle.exact.proofs.Integers.{returned}
-use Rattle.exact.proofs.SumSteps.{Total, totals, down-total}
+use Rattle.exact.proofs.SumSteps.{totals, down-total}
 use Rattle.exact.proofs.sum_down.Statement.{statement}
 use Rattle.exact.proofs.sum_down.Tie as tie
 

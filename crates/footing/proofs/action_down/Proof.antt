@@ -5,10 +5,9 @@ use mir.Syntax.{w64}
 use mir.Val.{toZ, ofZ}
 use mir.Facts.{toZ-ofZ}
 use Rattle.exact.specs.SignedFraction.{SignedFraction, downS}
-use Rattle.coefficient.specs.Coefficient.{fraction}
-use Rattle.footing.specs.Actions.{action}
+use Rattle.exact.proofs.Integers.{read-as}
 use Rattle.footing.specs.Ranges.{turned}
-use Rattle.footing.proofs.Directions.{told, action-is, sum-fits}
+use Rattle.footing.proofs.Directions.{action-is, sum-fits}
 use borrow.Author.Needs.{needs}
 use Rattle.footing.proofs.action_down.Statement.{statement}
 use Rattle.footing.proofs.action_down.Tie as tie
@@ -26,7 +25,7 @@ steady : (c : tie.After-word) → toZ w64 (ofZ w64 (c .before .before .long .res
 steady c =
     let s = c .before .before .before in
     let l = c .before .before .long in
-    told (l .result) (s .args .v) (l .ok) (l .ensures ∙ toZ-ofZ (s .fits .v))
+    read-as (l .ensures ∙ toZ-ofZ (s .fits .v)) (l .ok)
 
 seismic : (c : tie.After-word) →
     toZ w64 (ofZ w64 (c .before .seismic-part .result))
@@ -34,10 +33,10 @@ seismic : (c : tie.After-word) →
 seismic c =
     let s = c .before .before .before in
     let l = c .before .seismic-part in
-    told (l .result) (turned (s .args .minus) (pos (s .args .a .num) *ℤ s .args .e)) (l .ok) (l .ensures ∙ rw (toZ-ofZ (s .fits .e)))
+    read-as (l .ensures ∙ rw (toZ-ofZ (s .fits .e))) (l .ok)
 
 divisor : (c : tie.After-word) → toZ w64 (ofZ w64 (c .word .result)) ≡ pos (c .before .before .before .args .a .den)
-divisor c = told (c .word .result) (pos (c .before .before .before .args .a .den)) (c .word .ok) (c .word .ensures)
+divisor c = read-as (c .word .ensures) (c .word .ok)
 
 sum-down-requires : tie.Need-sum-down-requires
 sum-down-requires c κs =
@@ -49,8 +48,7 @@ returns c =
     let s = c .before .before .before .before in
     let w = c .before in
     let e = rw (steady w, seismic w, divisor w) at (c .sum-down .ensures) in
-    told (c .sum-down .result) (downS (action (s .args .minus) (fraction (s .args .a)) (s .args .v) (s .args .e))) (c .sum-down .ok)
-    (e ∙ ap (λ (x : SignedFraction). downS x) (action-is (s .args .minus) (s .args .a .num) (s .args .a .den) (s .args .v) (s .args .e)))
+    read-as (e ∙ ap (λ (x : SignedFraction). downS x) (action-is (s .args .minus) (s .args .a .num) (s .args .a .den) (s .args .v) (s .args .e))) (c .sum-down .ok)
 
 pub action-down-spec : {M : Type 1} → statement M
 action-down-spec =

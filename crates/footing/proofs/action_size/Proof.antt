@@ -7,10 +7,11 @@ use mir.Facts.{toZ-ofZ}
 use native.Mathlib.Omega.{arith}
 use Rattle.exact.specs.Fraction.{upF}
 use Rattle.exact.specs.SignedFraction.{SignedFraction, size}
+use Rattle.exact.proofs.Integers.{read-as}
 use Rattle.coefficient.specs.Coefficient.{fraction}
 use Rattle.footing.specs.Actions.{action}
 use Rattle.footing.specs.Ranges.{turned}
-use Rattle.footing.proofs.Directions.{told, action-is, sum-fits, size-le}
+use Rattle.footing.proofs.Directions.{action-is, sum-fits, size-le}
 use borrow.Author.Needs.{needs}
 use Rattle.footing.proofs.action_size.Statement.{statement}
 use Rattle.footing.proofs.action_size.Tie as tie
@@ -28,7 +29,7 @@ steady : (c : tie.After-word) → toZ w64 (ofZ w64 (c .before .before .long .res
 steady c =
     let s = c .before .before .before in
     let l = c .before .before .long in
-    told (l .result) (s .args .v) (l .ok) (l .ensures ∙ toZ-ofZ (s .fits .v))
+    read-as (l .ensures ∙ toZ-ofZ (s .fits .v)) (l .ok)
 
 seismic : (c : tie.After-word) →
     toZ w64 (ofZ w64 (c .before .seismic-part .result))
@@ -36,10 +37,10 @@ seismic : (c : tie.After-word) →
 seismic c =
     let s = c .before .before .before in
     let l = c .before .seismic-part in
-    told (l .result) (turned (s .args .minus) (pos (s .args .a .num) *ℤ s .args .e)) (l .ok) (l .ensures ∙ rw (toZ-ofZ (s .fits .e)))
+    read-as (l .ensures ∙ rw (toZ-ofZ (s .fits .e))) (l .ok)
 
 divisor : (c : tie.After-word) → toZ w64 (ofZ w64 (c .word .result)) ≡ pos (c .before .before .before .args .a .den)
-divisor c = told (c .word .result) (pos (c .before .before .before .args .a .den)) (c .word .ok) (c .word .ensures)
+divisor c = read-as (c .word .ensures) (c .word .ok)
 
 size-up-requires : tie.Need-size-up-requires
 size-up-requires c κs =
@@ -57,8 +58,7 @@ sized c =
     let s = c .before .before .before .before in
     let w = c .before in
     let e = rw (steady w, seismic w, divisor w) at (c .size-up .ensures) in
-    told (c .size-up .result) (pos (upF (size (action (s .args .minus) (fraction (s .args .a)) (s .args .v) (s .args .e))))) (c .size-up .ok)
-    (e ∙ ap (λ (x : SignedFraction). pos (upF (size x))) (action-is (s .args .minus) (s .args .a .num) (s .args .a .den) (s .args .v) (s .args .e)))
+    read-as (e ∙ ap (λ (x : SignedFraction). pos (upF (size x))) (action-is (s .args .minus) (s .args .a .num) (s .args .a .den) (s .args .v) (s .args .e))) (c .size-up .ok)
 
 cast-result : tie.Need-cast-result
 cast-result c = rw (sized c) (tt, record { fits = let s = c .before .before .before .before in omega (arith, size-le (s .args .minus) (s .args .a) (s .args .v) (s .args .e) (s .pre)) })

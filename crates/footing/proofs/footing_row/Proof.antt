@@ -9,12 +9,13 @@ use mir.Syntax.{w32, w64}
 use mir.Val.{toZ, ofZ}
 use Rattle.exact.specs.Fraction.{Fraction, upF}
 use Rattle.exact.specs.SignedFraction.{SignedFraction, size, downS}
+use Rattle.exact.proofs.Integers.{read32, read-as}
 use Rattle.coefficient.proofs.Bounds.{proper as coefficient-proper}
 use Rattle.footing.specs.Actions.{footingCoefficient, action, normal, momentB, momentL, horizontal}
 use Rattle.footing.specs.Ranges.{Capped, ActionRange}
 use Rattle.footing.specs.Rows.{eccentricity}
 use Rattle.footing.proofs.Rows.{heavy-path, light-path}
-use Rattle.footing.proofs.Directions.{read-32, told, capped-coefficient, proper, size-le, Heavy, heavy, normal-le, unsigned, eccentricity-le}
+use Rattle.footing.proofs.Directions.{capped-coefficient, proper, size-le, Heavy, heavy, normal-le, unsigned, eccentricity-le}
 use borrow.Author.Needs.{needs}
 use Rattle.footing.proofs.footing_row.Statement.{statement}
 use Rattle.footing.proofs.footing_row.Tie as tie
@@ -40,7 +41,7 @@ plain c v e h k = record { coefficient = capped-here c; steady = h; seismic = k 
 
 ranged : (c : tie.After-footing-coefficient) (v e : ℤ) → natAbs v ≤ 100000000 → natAbs e ≤ 100000000 →
     ActionRange (c .footing-coefficient .result) (toZ w32 (ofZ w32 v)) (toZ w32 (ofZ w32 e))
-ranged c v e h k = rw (read-32 v h, read-32 e k) (plain c v e h k)
+ranged c v e h k = rw (read32 v h, read32 e k) (plain c v e h k)
 
 -- the size of an action, in the coefficient's own terms
 size-bound : (c : tie.After-footing-coefficient) (v e : ℤ) → natAbs v ≤ 100000000 → natAbs e ≤ 100000000 →
@@ -59,10 +60,9 @@ force : (c : tie.After-action-down) → toZ w64 (ofZ w64 (c .action-down .result
 force c =
     let s = priced c .before in
     let f = s .args .f in
-    told (c .action-down .result) (downS (normal-at c)) (c .action-down .ok)
-    (c .action-down .ensures
-    ∙ rw (read-32 (f .nv) (s .pre .nv), read-32 (f .ne) (s .pre .ne))
-    (ap (λ (x : Fraction). downS (action (s .args .minus) x (f .nv) (f .ne))) (priced c .footing-coefficient .ensures)))
+    read-as (c .action-down .ensures
+    ∙ rw (read32 (f .nv) (s .pre .nv), read32 (f .ne) (s .pre .ne))
+    (ap (λ (x : Fraction). downS (action (s .args .minus) x (f .nv) (f .ne))) (priced c .footing-coefficient .ensures))) (c .action-down .ok)
 
 heavy-at : (c : tie.After-action-down) → leZ (pos 20000) (downS (normal-at c)) ≡ true → Heavy (normal-at c)
 heavy-at c h =
@@ -92,7 +92,7 @@ horizontally c =
     let s = a .before in
     let f = s .args .f in
     c .action-size .ensures
-    ∙ rw (read-32 (f .hv) (s .pre .hv), read-32 (f .he) (s .pre .he))
+    ∙ rw (read32 (f .hv) (s .pre .hv), read32 (f .he) (s .pre .he))
     (ap (λ (x : Fraction). upF (size (action (s .args .minus) x (f .hv) (f .he)))) (a .footing-coefficient .ensures))
 
 footing-coefficient-requires : tie.Need-footing-coefficient-requires
@@ -139,7 +139,7 @@ along-breadth c =
     let s = a .before in
     let f = s .args .f in
     c .eccentricity-up .ensures
-    ∙ rw (force t, read-32 (f .xv) (s .pre .xv), read-32 (f .xe) (s .pre .xe))
+    ∙ rw (force t, read32 (f .xv) (s .pre .xv), read32 (f .xe) (s .pre .xe))
     (ap (λ (x : Fraction). eccentricity (upF (size (action (s .args .minus) x (f .xv) (f .xe)))) (natAbs (downS (normal-at t)))) (a .footing-coefficient .ensures))
 
 along-length : (c : tie.After-eccentricity-up2) →
@@ -156,7 +156,7 @@ along-length c =
     let s = a .before in
     let f = s .args .f in
     c .eccentricity-up2 .ensures
-    ∙ rw (force t, read-32 (f .yv) (s .pre .yv), read-32 (f .ye) (s .pre .ye))
+    ∙ rw (force t, read32 (f .yv) (s .pre .yv), read32 (f .ye) (s .pre .ye))
     (ap (λ (x : Fraction). eccentricity (upF (size (action (s .args .minus) x (f .yv) (f .ye)))) (natAbs (downS (normal-at t)))) (a .footing-coefficient .ensures))
 
 -- ---- the rows

@@ -4,15 +4,14 @@ use mathlib.Core.Bool.{Bool}
 use Prim.Native.Nat.{ℕ, _+_, _*_, _≤_}
 use native.Mathlib.Omega.{arith}
 use lib.Dec.{ltb}
-use lib.IntN.{pos}
 use Rattle.exact.specs.Fraction.{Fraction}
 use Rattle.exact.proofs.Rounding.{down-le}
+use Rattle.exact.proofs.Integers.{read-as}
 use Rattle.claims.specs.Verdict.{flag}
 use Rattle.footing.specs.Actions.{footingCoefficient}
 use Rattle.footing.specs.Rows.{eccentric, slidingResistance, effectiveArea}
-use Rattle.footing.proofs.Directions.{told}
 use Rattle.footing.proofs.Sliding.{base-le}
-use Rattle.footing.proofs.Bits.{flag-le}
+use Rattle.claims.proofs.Bits.{flag-le}
 use borrow.Author.Needs.{needs}
 use Rattle.footing.proofs.heavy_row.Statement.{statement}
 use Rattle.footing.proofs.heavy_row.Tie as tie
@@ -72,12 +71,12 @@ returns c =
     let eight : second .result ≡ flag 8 (ltb (slidingResistance (a .f) (a .soil) (a .ex) (a .ey) (a .n)) (a .h)) =
     second .ensures ∙ ap (λ (x : ℕ). flag 8 (ltb x (a .h))) (r .ensures) in
     rw (
-      told (c .before .before .before .before .before .word .result) (pos (a .n)) (c .before .before .before .before .before .word .ok) (c .before .before .before .before .before .word .ensures),
-      told (c .before .before .before .before .word2 .result) (pos (a .ex)) (c .before .before .before .before .word2 .ok) (c .before .before .before .before .word2 .ensures),
-      told (c .before .before .before .word3 .result) (pos (a .ey)) (c .before .before .before .word3 .ok) (c .before .before .before .word3 .ensures),
-      told (c .before .before .word4 .result) (pos (a .h)) (c .before .before .word4 .ok) (c .before .before .word4 .ensures),
-      told (c .before .word5 .result) (pos (r .result)) (c .before .word5 .ok) (c .before .word5 .ensures),
-      told (c .word6 .result) (pos (first .result + second .result)) (c .word6 .ok) (c .word6 .ensures),
+      read-as (c .before .before .before .before .before .word .ensures) (c .before .before .before .before .before .word .ok),
+      read-as (c .before .before .before .before .word2 .ensures) (c .before .before .before .before .word2 .ok),
+      read-as (c .before .before .before .word3 .ensures) (c .before .before .before .word3 .ok),
+      read-as (c .before .before .word4 .ensures) (c .before .before .word4 .ok),
+      read-as (c .before .word5 .ensures) (c .before .word5 .ok),
+      read-as (c .word6 .ensures) (c .word6 .ok),
       four,
       eight,
       r .ensures,

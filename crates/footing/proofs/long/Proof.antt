@@ -1,6 +1,6 @@
 -- `footing::long` meets its contract: a number of 32 bits fits 64. Assumes nothing.
 use mir.Facts.{toZ-ofZ}
-use Rattle.footing.proofs.Directions.{widened}
+use Rattle.exact.proofs.Integers.{widened}
 use Rattle.footing.proofs.long.Statement.{statement}
 use Rattle.footing.proofs.long.Tie as tie
 

@@ -4,7 +4,8 @@ use lib.IntN.{pos, _*ℤ_}
 use mir.Syntax.{w64}
 use mir.Val.{SFits, toZ, ofZ}
 use mir.Facts.{toZ-ofZ}
-use Rattle.footing.proofs.Directions.{told, part-fits, negated, negated-fits}
+use Rattle.exact.proofs.Integers.{read-as, negated}
+use Rattle.footing.proofs.Directions.{part-fits, negated-fits}
 use borrow.Author.Needs.{needs}
 use Rattle.footing.proofs.seismic_part.Statement.{statement}
 use Rattle.footing.proofs.seismic_part.Tie as tie
@@ -19,12 +20,12 @@ product : (s : tie.Start) → SFits w64 (pos (s .args .a .num) *ℤ s .args .e)
 product s = part-fits (s .args .a .num) (s .args .e) (s .pre .0 .num) (s .pre .1)
 
 factor : (c : tie.After-long) → toZ w64 (ofZ w64 (c .before .word .result)) ≡ pos (c .before .before .args .a .num)
-factor c = told (c .before .word .result) (pos (c .before .before .args .a .num)) (c .before .word .ok) (c .before .word .ensures)
+factor c = read-as (c .before .word .ensures) (c .before .word .ok)
 
 seismic : (c : tie.After-long) → toZ w64 (ofZ w64 (c .long .result)) ≡ c .before .before .args .e
 seismic c =
     let s = c .before .before in
-    told (c .long .result) (s .args .e) (c .long .ok) (c .long .ensures ∙ toZ-ofZ (s .fits .e))
+    read-as (c .long .ensures ∙ toZ-ofZ (s .fits .e)) (c .long .ok)
 
 mul-part : tie.Need-mul-part
 mul-part c =

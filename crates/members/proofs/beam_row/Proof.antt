@@ -1,8 +1,8 @@
 -- `members::beam_row` meets its contract: V0 plus and minus the shear of each direction, in the row of specs/ (Rows.antt). Assumes nothing.
 use native.Mathlib.Omega.{arith}
 use borrow.Author.Needs.{needs}
-use Rattle.exact.proofs.Integers.{returned}
-use Rattle.members.proofs.Steps.{read-as, read32, bounded, add-range}
+use Rattle.exact.proofs.Integers.{returned, read-as, read32}
+use Rattle.members.proofs.Steps.{bounded, add-range}
 use Rattle.members.proofs.Rows.{beam-is}
 use Rattle.members.proofs.beam_row.Statement.{statement}
 use Rattle.members.proofs.beam_row.Tie as tie

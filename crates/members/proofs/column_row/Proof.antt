@@ -2,10 +2,11 @@
 use mathlib.Core.Path.{_≡_}
 use native.Mathlib.Omega.{arith}
 use borrow.Author.Needs.{needs}
-use Rattle.exact.proofs.Integers.{returned}
+use Rattle.exact.proofs.Integers.{returned, read-as}
+use Rattle.exact.proofs.Rounding.{up-le-self}
 use Rattle.coefficient.specs.Coefficient.{fraction}
 use Rattle.members.specs.Column.{columnShear}
-use Rattle.members.proofs.Steps.{read-as, Bounded, bounded, up-at-most}
+use Rattle.members.proofs.Steps.{Bounded, bounded}
 use Rattle.members.proofs.Rows.{column-is}
 use Rattle.members.proofs.column_row.Statement.{statement}
 use Rattle.members.proofs.column_row.Tie as tie
@@ -50,7 +51,7 @@ word-requires c κs =
     let d = c .before in
     let x = d .before .capacity-shear .result in
     let b = in-bounds (d .before) in
-    omega (arith, d .ceil-div-unsigned .ensures, up-at-most (x .num) (x .den) (b .positive), b .num)
+    omega (arith, d .ceil-div-unsigned .ensures, up-le-self (x .num) (x .den) (b .positive), b .num)
 
 word-requires-2 : tie.Need-word-requires-2
 word-requires-2 c κs = search needs

@@ -2,8 +2,8 @@
 use Prim.Native.Nat.{_+_, _≤_}
 use native.Mathlib.Omega.{arith}
 use borrow.Author.Needs.{needs}
-use Rattle.members.proofs.Bits.{flag-le}
-use Rattle.members.proofs.Steps.{read-as}
+use Rattle.claims.proofs.Bits.{flag-le}
+use Rattle.exact.proofs.Integers.{read-as}
 use Rattle.members.proofs.detail_bits.Statement.{statement}
 use Rattle.members.proofs.detail_bits.Tie as tie
 

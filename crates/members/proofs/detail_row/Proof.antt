@@ -2,8 +2,7 @@
 use native.Mathlib.Omega.{arith}
 use native.Mathlib.Nat.{mul-le-mul}
 use borrow.Author.Needs.{needs}
-use Rattle.exact.proofs.Integers.{returned}
-use Rattle.members.proofs.Steps.{read-as}
+use Rattle.exact.proofs.Integers.{returned, read-as}
 use Rattle.members.proofs.Rows.{detail-is}
 use Rattle.members.proofs.detail_row.Statement.{statement}
 use Rattle.members.proofs.detail_row.Tie as tie

@@ -1,9 +1,8 @@
--- `members::end_moment` meets its contract: the coefficient of the joint times ME, up; the product fits (Steps.antt). Assumes nothing.
+-- `members::end_moment` meets its contract: the coefficient of the joint times ME, up; the product fits. Assumes nothing.
 use mathlib.Core.Path.{ap, _∙_}
-use Prim.Native.Nat.{min}
 use borrow.Author.Needs.{needs}
 use Rattle.exact.specs.Fraction.{Fraction, whole, upF, _*F_}
-use Rattle.members.proofs.Steps.{product-fits}
+use Rattle.coefficient.proofs.Bounds.{coefficient-fits}
 use Rattle.members.proofs.end_moment.Statement.{statement}
 use Rattle.members.proofs.end_moment.Tie as tie
 
@@ -17,9 +16,7 @@ product-up-requires : tie.Need-product-up-requires
 product-up-requires c κs =
     let s = c .before .before in
     let e = rw (c .before .lesser .ensures) at (c .coefficient .ensures) in
-    let g = s .args .settings in
-    let j = s .args .j in
-    product-fits (g .joints) (min (j .beams) (j .columns)) (j .seismic) (g .behaviour) (s .args .moment) (c .coefficient .result) (s .pre .0) (s .pre .1) e
+    coefficient-fits e (s .pre .0) (s .pre .1)
 
 returns : tie.Need-returns
 returns c =

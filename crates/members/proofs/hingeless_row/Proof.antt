@@ -3,8 +3,8 @@ use lib.IntN.{ℤ, pos, natAbs, _+ℤ_, _-ℤ_}
 use Prim.Native.Nat.{ℕ, _≤_}
 use native.Mathlib.Omega.{arith}
 use borrow.Author.Needs.{needs}
-use Rattle.exact.proofs.Integers.{returned, natAbs-+ℤ}
-use Rattle.members.proofs.Steps.{read-as, read32, read64, fits64, natAbs-minus, shear-at-most}
+use Rattle.exact.proofs.Integers.{returned, natAbs-+ℤ, read-as, read32}
+use Rattle.members.proofs.Steps.{read64, fits64, natAbs-minus, shear-at-most}
 use Rattle.members.proofs.Rows.{hingeless-is}
 use Rattle.members.proofs.hingeless_row.Statement.{statement}
 use Rattle.members.proofs.hingeless_row.Tie as tie

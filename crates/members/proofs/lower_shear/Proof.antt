@@ -3,7 +3,8 @@ use mathlib.Core.Path.{_∙_}
 use lib.IntN.{pos, _-ℤ_}
 use native.Mathlib.Omega.{arith}
 use borrow.Author.Needs.{needs}
-use Rattle.members.proofs.Steps.{read-as, read32, read64, fits64, natAbs-minus, difference-fits, difference}
+use Rattle.exact.proofs.Integers.{read-as, read32}
+use Rattle.members.proofs.Steps.{read64, fits64, natAbs-minus, difference-fits, difference}
 use Rattle.members.proofs.lower_shear.Statement.{statement}
 use Rattle.members.proofs.lower_shear.Tie as tie
 

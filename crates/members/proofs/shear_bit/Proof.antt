@@ -3,8 +3,8 @@ use mathlib.Core.Path.{_∙_, ap}
 use lib.IntN.{pos}
 use native.Mathlib.Omega.{arith}
 use borrow.Author.Needs.{needs}
-use Rattle.members.proofs.Bits.{flag-le}
-use Rattle.members.proofs.Steps.{read-as}
+use Rattle.claims.proofs.Bits.{flag-le}
+use Rattle.exact.proofs.Integers.{read-as}
 use Rattle.members.proofs.shear_bit.Statement.{statement}
 use Rattle.members.proofs.shear_bit.Tie as tie
 

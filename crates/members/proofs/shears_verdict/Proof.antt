@@ -7,7 +7,8 @@ use lib.Signed.{ltZ}
 use native.Mathlib.Omega.{arith}
 use borrow.Author.Needs.{needs}
 use mir.Facts.{toZ-ofZ}
-use Rattle.members.proofs.Steps.{read-as, read64, fits64, natAbs-minus, lower-test}
+use Rattle.exact.proofs.Integers.{read-as}
+use Rattle.members.proofs.Steps.{read64, fits64, natAbs-minus, lower-test}
 use Rattle.members.proofs.shears_verdict.Statement.{statement}
 use Rattle.members.proofs.shears_verdict.Tie as tie
 

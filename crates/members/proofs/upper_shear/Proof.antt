@@ -1,7 +1,8 @@
 -- `members::upper_shear` meets its contract: `sum_up` of V0 and D, whose sum fits (Steps.antt). Assumes nothing.
 use native.Mathlib.Omega.{arith}
 use borrow.Author.Needs.{needs}
-use Rattle.members.proofs.Steps.{read-as, read32, read64, fits64, sum-fits}
+use Rattle.exact.proofs.Integers.{read-as, read32}
+use Rattle.members.proofs.Steps.{read64, fits64, sum-fits}
 use Rattle.members.proofs.upper_shear.Statement.{statement}
 use Rattle.members.proofs.upper_shear.Tie as tie
 

@@ -1,7 +1,7 @@
 -- `walls::base_row` meets its contract. Every word fits, and the parts are those of the row. Assumes nothing.
 use native.Mathlib.Omega.{arith}
 use Rattle.walls.specs.Base.{baseRowFrom}
-use Rattle.walls.proofs.Ranges.{product-fits}
+use Rattle.coefficient.proofs.Bounds.{product-fits}
 use borrow.Author.Needs.{needs}
 use Rattle.walls.proofs.base_row.Statement.{statement}
 use Rattle.walls.proofs.base_row.Tie as tie

@@ -3,7 +3,8 @@ use native.Mathlib.Omega.{arith}
 use native.Mathlib.Nat.{mul-le-mul}
 use Rattle.coefficient.specs.Coefficient.{fraction}
 use Rattle.walls.specs.Storey.{storeyRowFrom}
-use Rattle.walls.proofs.Ranges.{product-fits, shear-fits, moment-le}
+use Rattle.coefficient.proofs.Bounds.{product-fits}
+use Rattle.walls.proofs.Ranges.{shear-fits, moment-le}
 use borrow.Author.Needs.{needs}
 use Rattle.walls.proofs.storey_row.Statement.{statement}
 use Rattle.walls.proofs.storey_row.Tie as tie

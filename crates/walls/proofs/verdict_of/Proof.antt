@@ -1,7 +1,7 @@
 -- `walls::verdict_of` meets its contract: each bit is at most its value. Assumes nothing.
 use Prim.Native.Nat.{_+_, _≤_}
 use native.Mathlib.Omega.{arith}
-use Rattle.walls.proofs.Ranges.{flag-le}
+use Rattle.claims.proofs.Bits.{flag-le}
 use borrow.Author.Needs.{needs}
 use Rattle.walls.proofs.verdict_of.Statement.{statement}
 use Rattle.walls.proofs.verdict_of.Tie as tie

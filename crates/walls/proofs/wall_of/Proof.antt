@@ -1,5 +1,5 @@
 -- `walls::wall_of` meets its contract, by what the coefficient and its product ensure. Assumes nothing.
-use Rattle.walls.proofs.Ranges.{coefficient-fits}
+use Rattle.coefficient.proofs.Bounds.{coefficient-fits}
 use Rattle.walls.proofs.Running.{wall-is}
 use borrow.Author.Needs.{needs}
 use Rattle.walls.proofs.wall_of.Statement.{statement}

@@ -13,13 +13,13 @@ use lib.IntN.{ℤ, pos}
 use lib.Signed.{ltZ}
 use Rattle.exact.specs.SignedFraction.{wholeS, above, below, _≤S_}
 use Rattle.exact.proofs.Integers.{<ℤ-in, <ℤ-out}
 use Rattle.claims.proofs.Orders.{≤-or}
 use Rattle.claims.specs.Verdict.{flag}
 use Rattle.claims.specs.Claims.{Check, Passes, Claims, AllDemands, AllChecks, AllPass, BitClear, BitHolds, Hold}
 
 -- ---- one bit of a sum
 
-pub flag-times : (b : ℕ) (t : Bool) → flag b t ≡ b * flag 1 t
+flag-times : (b : ℕ) (t : Bool) → flag b t ≡ b * flag 1 t
 flag-times b true = omega arith
 flag-times b false = omega arith
 
@@ -39,10 +39,10 @@ even true high = (λ h. absurd (odd high h), λ h. absurd (subst T h tt))
 even false high = (λ h. refl, λ h. omega arith)
 
 -- a verdict's bit b is clear exactly when its flag is not raised; low are the flags below b, high those above
-pub clear : (b low high : ℕ) (t : Bool) → low < b → BitClear b (pos (low + flag b t + 2 * b * high)) ↔ (t ≡ false)
+clear : (b low high : ℕ) (t : Bool) → low < b → BitClear b (pos (low + flag b t + 2 * b * high)) ↔ (t ≡ false)
 clear b low high t h = rw (digit b low high t h) (even t high)
 
-pub bit-holds : (c : Claims) (b low high : ℕ) (t : Bool) → low < b → c .verdict ≡ pos (low + flag b t + 2 * b * high) →
+bit-holds : (c : Claims) (b low high : ℕ) (t : Bool) → low < b → c .verdict ≡ pos (low + flag b t + 2 * b * high) →
     ((t ≡ false) ↔ AllPass b (c .checks)) → BitHolds b c
 bit-holds c b low high t h e k =
     let l = clear b low high t h in
@@ -117,31 +117,38 @@ abbrev pub without : ℕ → List Check → Bool
 without b [] = true
 without b (c ∷ cs) = not (eqb (c .bit) b) && without b cs
 
-pub none-raised : (b : ℕ) (cs : List Check) → T (without b cs) → (false ≡ false) ↔ AllPass b cs
-none-raised b cs h = (λ z. pass cs h, λ z. refl)
+without-pass : (b : ℕ) (cs : List Check) → T (without b cs) → AllPass b cs
+without-pass b [] h = tt
+without-pass b (c ∷ cs) h = by (eqb (c .bit) b) refl h (λ k. without-pass b cs k)
   where
-    pass : (cs : List Check) → T (without b cs) → AllPass b cs
-    pass [] h = tt
-    pass (c ∷ cs) h = by (eqb (c .bit) b) refl h (λ k. pass cs k)
-      where
-        by : (t : Bool) → eqb (c .bit) b ≡ t → T (not t && without b cs) → (T (without b cs) → AllPass b cs) → AllPass b (c ∷ cs)
-        by true e h rest = absurd h
-        by false e h rest = (λ k. absurd (eqb-false (c .bit) b e k), rest h)
+    by : (t : Bool) → eqb (c .bit) b ≡ t → T (not t && without b cs) → (T (without b cs) → AllPass b cs) → AllPass b (c ∷ cs)
+    by true e h rest = absurd h
+    by false e h rest = (λ k. absurd (eqb-false (c .bit) b e k), rest h)
+
+pub none-raised : (b : ℕ) (cs : List Check) → T (without b cs) → (false ≡ false) ↔ AllPass b cs
+none-raised b cs h = (λ z. without-pass b cs h, λ z. refl)
+
+-- one check of the bit, and two, before others that are not
+pub one-raised : (b : ℕ) (c : Check) (cs : List Check) (t : Bool) → c .bit ≡ b → T (without b cs) → ((t ≡ false) ↔ Passes c) → (t ≡ false) ↔ AllPass b (c ∷ cs)
+one-raised b c cs t e n k = (λ z. (λ u. k .0 z, without-pass b cs n), λ z. k .1 (z .0 e))
+
+pub two-raised : (b : ℕ) (c d : Check) (cs : List Check) (t : Bool) → c .bit ≡ b → d .bit ≡ b → T (without b cs) → ((t ≡ false) ↔ (Passes c × Passes d)) →
+    (t ≡ false) ↔ AllPass b (c ∷ d ∷ cs)
+two-raised b c d cs t e f n k = (λ z. (λ u. k .0 z .0, (λ u. k .0 z .1, without-pass b cs n)), λ z. k .1 (z .0 e, z .1 .0 f))
 
 -- a check of another bit changes nothing
 pub other-raised : (b : ℕ) (c : Check) (cs : List Check) (t : Bool) → (c .bit ≡ b → ⊥) → ((t ≡ false) ↔ AllPass b cs) → (t ≡ false) ↔ AllPass b (c ∷ cs)
 other-raised b c cs t n k = (λ z. (λ e. absurd (n e), k .0 z), λ z. k .1 (z .1))
 
--- the last check of the bit, and one before others
-pub one-raised : (b : ℕ) (c : Check) (t : Bool) → c .bit ≡ b → ((t ≡ false) ↔ Passes c) → (t ≡ false) ↔ AllPass b (c ∷ [])
-one-raised b c t e k = (λ z. (λ u. k .0 z, tt), λ z. k .1 (z .0 e))
-
-pub more-raised : (b : ℕ) (c : Check) (cs : List Check) (t u : Bool) → c .bit ≡ b → ((t ≡ false) ↔ Passes c) → ((u ≡ false) ↔ AllPass b cs) →
-    ((t || u) ≡ false) ↔ AllPass b (c ∷ cs)
-more-raised b c cs true u e k l = (λ z. absurd (subst T z tt), λ z. absurd (subst T (k .1 (z .0 e)) tt))
-more-raised b c cs false u e k l = (λ z. (λ v. k .0 refl, l .0 z), λ z. l .1 (z .1))
-
 -- ---- the tests of a flag
+
+-- neither of two tests is met
+pub neither : {P Q : Type 0} (t u : Bool) → ((t ≡ false) ↔ P) → ((u ≡ false) ↔ Q) → ((t || u) ≡ false) ↔ (P × Q)
+neither true u p q = (λ z. absurd (subst T z tt), λ z. absurd (subst T (p .1 (z .0)) tt))
+neither false u p q = (λ z. (p .0 refl, q .0 z), λ z. q .1 (z .1))
+
+pub at-most : (m n : ℕ) → (ltb m n ≡ false) ↔ (n ≤ m)
+at-most m n = (λ e. ltb-false m n e, λ h. le-ltb m n h)
 
 is-false : (t : Bool) → (T t → ⊥) → t ≡ false
 is-false true h = absurd (h tt)
