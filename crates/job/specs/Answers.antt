@@ -1,5 +1,7 @@
--- The answers of the calls in 01's terms: the refusal's number (0: none), its offset, and a number of rows. "Row counts are 0
+-- The answers of the calls in 01's terms: whether the job is accepted, the refusal's number and offset (0 where there is
+-- none), and a number of rows. "Row counts are 0
 -- in every refusal but 9".
+use mathlib.Core.Bool.{Bool, true, false}
 use Prim.Native.Nat.{ℕ}
 use lib.ListN.{length}
 use mathlib.Core.List.{List}
@@ -10,15 +12,16 @@ use Rattle.job.specs.declared.Walked.the-variants as Walked
 use Rattle.job.specs.Placed.{Job, refused, accepted, placed, allRows}
 
 pub record Answer : Type 0 where
+  pub accepted : Bool
   pub number : ℕ
   pub offset : ℕ
   pub rows : ℕ
 
 abbrev pub rowsAnswer : ℕ → Answer
-rowsAnswer n = record { number = 0; offset = 0; rows = n }
+rowsAnswer n = record { accepted = true; number = 0; offset = 0; rows = n }
 
 abbrev pub refusedAnswer : ℕ → ℕ → Answer
-refusedAnswer number offset = record { number = number; offset = offset; rows = 0 }
+refusedAnswer number offset = record { accepted = false; number = number; offset = offset; rows = 0 }
 
 -- the answer of size in the code, in 01's terms
 abbrev pub rowCountAnswer : RowCount → Answer

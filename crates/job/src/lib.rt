@@ -154,20 +154,21 @@ fn row_count(walked: Walked) -> RowCount
     }
 }
 
-// A job's row count, or its refusal: a walk with no room for rows.
+// A job's row count, or its refusal, by a walk with no room for rows; the table of cubes is lent.
+pub fn count(job: &[u8], table: &[u64; 1001]) -> RowCount
+    requires { ⌜ IsCubes (now table) ⌝ }
+    ensures { λ r. ⌜ rowCountAnswer r ≡ sizeOf (now (job .entry)) ⌝ }
+{
+    let mut joints = [0u32; 1024];
+    let mut rows = [0i64; 1];
+    let walked = walk(job, first_place(), 4097, &mut joints, table, &mut rows[..0]);
+    row_count(walked)
+}
+
+// A job's row count, or its refusal.
 pub fn size(job: &[u8]) -> RowCount
     ensures { λ r. ⌜ rowCountAnswer r ≡ sizeOf (now (job .entry)) ⌝ }
 {
     let table = cubes::table();
-    let mut joints = [0u32; 1024];
-    let mut rows = [0i64; 1];
-    let walked = walk(
-        job,
-        first_place(),
-        4097,
-        &mut joints,
-        &table,
-        &mut rows[..0],
-    );
-    row_count(walked)
+    count(job, &table)
 }

@@ -1,4 +1,4 @@
--- `job::size` meets its contract: the walk from the start is the placed commands (Begin.antt). Assumes nothing.
+-- `job::count` meets its contract: the walk from the start is the placed commands (Begin.antt). Assumes nothing.
 use mathlib.Core.Path.{sym, ap, _∙_, subst}
 use mathlib.Core.List.{[]}
 use Rattle.job.specs.declared.Place.{Place}
@@ -6,17 +6,8 @@ use Rattle.job.specs.Answers.{walkedAnswer}
 use Rattle.job.specs.Walking.{Final, walkFrom, WalkAsks}
 use Rattle.job.proofs.Begin.{noJoints, begin-asks, size-is}
 use borrow.Author.Needs.{needs}
-use Rattle.job.proofs.size.Statement.{statement}
-use Rattle.job.proofs.size.Tie as tie
-use Rattle.job.proofs.size.Reads as reads
-use Rattle.job.proofs.size.Lts as lts
-use Rattle.cubes.proofs.table.Reads as table-reads
-use Rattle.job.proofs.first_place.Reads as first-place-reads
-use Rattle.job.proofs.row_count.Reads as row-count-reads
-use Rattle.job.proofs.walk.Reads as walk-reads
-
-table-requires : tie.Need-table-requires
-table-requires c κs = search needs
+use Rattle.job.proofs.count.Statement.{statement}
+use Rattle.job.proofs.count.Tie as tie
 
 first-place-requires : tie.Need-first-place-requires
 first-place-requires c κs = search needs
@@ -32,9 +23,9 @@ slice-aggregate-walk-2 c = search needs
 
 walk-requires : tie.Need-walk-requires
 walk-requires c κs =
-    let f = c .before .before .before in
-    let s = f .before .before .before in
-    (f .before .table .ensures, subst (λ (p : Place). WalkAsks (s .args .job .now) p noJoints 4097) (sym (f .first-place .ensures)) (begin-asks (s .args .job .now) 4097))
+    let f = c .before .before in
+    let s = f .before .before in
+    (s .pre, subst (λ (p : Place). WalkAsks (s .args .job .now) p noJoints 4097) (sym (f .first-place .ensures)) (begin-asks (s .args .job .now) 4097))
 
 row-count-requires : tie.Need-row-count-requires
 row-count-requires c κs = search needs
@@ -42,18 +33,17 @@ row-count-requires c κs = search needs
 returns : tie.Need-returns
 returns c =
     let w = c .before .before .before in
-    let f = w .before .before .before .before in
-    let s = f .before .before .before in
+    let f = w .before .before .before in
+    let s = f .before .before in
     c .row-count .ensures
     ∙ sym (ap (λ (x : Final). walkedAnswer (x .answer)) (w .walk .ensures))
     ∙ ap (λ (p : Place). walkedAnswer (walkFrom 4097 (s .args .job .now) p noJoints [] .answer)) (f .first-place .ensures)
-    ∙ size-is (s .args .job .now) [] (λ k. f .before .before .shared-slice-known .given k .fits)
+    ∙ size-is (s .args .job .now) [] (λ k. f .before .shared-slice-known .given k .fits)
 
-pub size-spec : {M : Type 1} → statement M
-size-spec =
+pub count-spec : {M : Type 1} → statement M
+count-spec =
     tie.close
     (tie.spec
-    table-requires
     first-place-requires
     slice-aggregate-walk
     array-borrow-prefix-rows

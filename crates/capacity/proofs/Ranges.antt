@@ -1,0 +1,136 @@
+-- Every placed command of an accepted job is in range, and so is what holds at it. Assumes nothing.
+use mathlib.Core.Path.{_≡_, refl, sym, ap, _∙_, subst}
+use mathlib.Core.Bool.{Bool, true, false, not, cond}
+use mathlib.Core.List.{List, [], _∷_}
+use mathlib.Core.Option.{Option, none, some, Option·some-injective, Option·none-ne-some}
+use Prim.Native.Nat.{ℕ, zero, suc, _+_, _≤_, _<_}
+use native.Mathlib.Omega.{arith}
+use native.Mathlib.Decide.{decLe, ℕ-discrete}
+use lib.Dec.{eqb, lit<}
+use lib.ListN.{length}
+use mir.Syntax.{w32}
+use mir.Val.{SFits}
+use borrow.Author.Tests.{eq-eqb, ne-eqb}
+use Rattle.coefficient.specs.declared.Settings.{Settings}
+use Rattle.members.specs.declared.Joint.{Joint}
+use Rattle.walls.specs.declared.WallBase.{WallBase}
+use Rattle.format.specs.Forms.{width}
+use Rattle.format.specs.Layouts.{formsOf, formsIn}
+use Rattle.format.specs.Commands.{Command, finish, settings, joint, column, beam, hingeless, wallBase, storey, soil, footing, detail, commandOf, inRange}
+use Rattle.format.specs.Reading.{byteAt, operandsAt, commandAt}
+use Rattle.format.proofs.Numbers.{Bytes, signed-fits}
+use Rattle.format.proofs.KnownBytes.{each-byte, command-above}
+use Rattle.format.proofs.RoundTrip.{Fit, at}
+use Rattle.format.proofs.OperandsRead.{operands-fit}
+use Rattle.format.proofs.CommandRanges.{SettingsOperands, JointOperands, WallBaseOperands, FootingFits, settings-in-range, joint-in-range, wall-base-in-range}
+use Rattle.held.specs.Held.{Held, nothing, next, withJoint, given, absent}
+use Rattle.job.specs.Faults.{faultAt, afterCommand}
+use Rattle.job.specs.Placed.{Placed, Job, refused, accepted, before, placedFrom, placed}
+use Rattle.job.proofs.PlacedCases.{placedAt, restAfter, by-cases}
+use Rattle.job.proofs.Simulation.{Faultless, faultless}
+
+-- what holds is in range
+pub record HeldRange (h : Held) : Type 0 where
+  pub settings : (s : Settings) → h .settings ≡ some s → SettingsOperands s
+  pub joints : (id : ℕ) (j : Joint) → h .joints id ≡ some j → JointOperands j
+  pub wall : (b : WallBase) → h .wall ≡ some b → WallBaseOperands b
+
+-- the signed operands of a command read from bytes fit an i32
+abbrev pub SignedFit : Command → Type 0
+SignedFit finish = Unit {0}
+SignedFit (settings s) = Unit {0}
+SignedFit (joint id j) = Unit {0}
+SignedFit (column c) = Unit {0}
+SignedFit (beam b) = SFits w32 (b .nonseismic)
+SignedFit (hingeless id1 id2 m) = SFits w32 (m .nonseismic)
+SignedFit (wallBase b) = Unit {0}
+SignedFit (storey s) = Unit {0}
+SignedFit (soil s) = Unit {0}
+SignedFit (footing f) = FootingFits f
+SignedFit (detail d) = Unit {0}
+
+signed-fit : (byte : ℕ) (v : ℕ → ℕ) → Fit byte v → SignedFit (commandOf byte v)
+unfolding commandOf formsOf formsIn width
+signed-fit byte v =
+    each-byte (λ b. Fit b v → SignedFit (commandOf b v)) (λ f. tt) (λ f. tt) (λ f. tt) (λ f. tt)
+    (λ f. signed-fits (v 5) (f 5 (lit< tt))) (λ f. signed-fits (v 5) (f 5 (lit< tt))) (λ f. tt) (λ f. tt) (λ f. tt)
+    (λ f.
+    record {
+      nv = signed-fits (v 4) (f 4 (lit< tt));
+      ne = signed-fits (v 5) (f 5 (lit< tt));
+      xv = signed-fits (v 6) (f 6 (lit< tt));
+      xe = signed-fits (v 7) (f 7 (lit< tt));
+      yv = signed-fits (v 8) (f 8 (lit< tt));
+      ye = signed-fits (v 9) (f 9 (lit< tt));
+      hv = signed-fits (v 10) (f 10 (lit< tt));
+      he = signed-fits (v 11) (f 11 (lit< tt));
+    })
+    (λ f. tt) (λ b h f. subst SignedFit (sym (command-above b v h)) tt) byte
+
+signed-read : (job : List ℕ) (offset : ℕ) → Bytes job → SignedFit (commandAt job offset)
+unfolding commandAt
+signed-read job offset b = signed-fit (byteAt job offset) (at (operandsAt job offset)) (operands-fit job offset b)
+
+-- ---- what holds stays in range
+
+nothing-range : HeldRange nothing
+nothing-range =
+    record { settings = λ s e. absurd (Option·none-ne-some s e); joints = λ id j e. absurd (Option·none-ne-some j e); wall = λ b e. absurd (Option·none-ne-some b e) }
+
+next-range : (h : Held) (c : Command) → HeldRange h → inRange c ≡ true → HeldRange (next h c)
+unfolding next
+next-range h finish r i = r
+next-range h (settings s) r i =
+    record { settings = λ t e. subst SettingsOperands (Option·some-injective s t e) (settings-in-range s i); joints = r .joints; wall = r .wall }
+next-range h (joint id j) r i = record { settings = r .settings; joints = λ k x e. each k x (ℕ-discrete k id) e; wall = r .wall }
+  where
+    each : (k : ℕ) (x : Joint) → Dec (k ≡ id) → withJoint id j (h .joints) k ≡ some x → JointOperands x
+    each k x (yes q) e = subst JointOperands (Option·some-injective j x (sym (rw (eq-eqb k id q) refl) ∙ e)) (joint-in-range id j i)
+    each k x (no q) e = r .joints k x (sym (rw (ne-eqb k id q) refl) ∙ e)
+next-range h (column c) r i = r
+next-range h (beam b) r i = r
+next-range h (hingeless id1 id2 m) r i = r
+next-range h (wallBase b) r i =
+    record { settings = r .settings; joints = r .joints; wall = λ x e. subst WallBaseOperands (Option·some-injective b x e) (wall-base-in-range b i) }
+next-range h (storey s) r i = r
+next-range h (soil s) r i = record { settings = r .settings; joints = r .joints; wall = r .wall }
+next-range h (footing f) r i = r
+next-range h (detail d) r i = r
+
+-- ---- every placed command
+
+pub record Good (p : Placed) : Type 0 where
+  pub range : inRange (p .command) ≡ true
+  pub signed : SignedFit (p .command)
+  pub present : absent (p .held) (p .command) ≡ false
+  pub held : HeldRange (p .held)
+
+abbrev pub AllGood : List Placed → Type 0
+AllGood [] = Unit {0}
+AllGood (p ∷ ps) = Good p × AllGood ps
+
+abbrev pub GoodJob : Job → Type 0
+GoodJob (refused number offset) = Unit {0}
+GoodJob (accepted ps) = AllGood ps
+
+good-in-front : (p : Placed) (j : Job) → Good p → GoodJob j → GoodJob (before p j)
+good-in-front p (refused number offset) g r = tt
+good-in-front p (accepted ps) g r = (g, r)
+
+abbrev GoodFrom : ℕ → List ℕ → Type 0
+GoodFrom n job = (offset count : ℕ) (h : Held) → HeldRange h → GoodJob (placedFrom n job offset count h)
+
+good-from : (n : ℕ) (job : List ℕ) → Bytes job → GoodFrom n job
+unfolding placedFrom
+good-from zero job b offset count h r = tt
+good-from (suc n) job b offset count h r =
+    by-cases n job offset count h GoodJob (λ l. tt) (λ l k e. tt) (λ l e z m. tt) (λ l e z m. tt)
+    (λ l e z.
+    let f = faultless job offset count h e in
+    good-in-front (placedAt job offset h) (restAfter n job offset count h)
+    (record { range = f .range; signed = signed-read job offset b; present = f .present; held = r })
+    (good-from n job b (afterCommand job offset) (count + 1) (next h (commandAt job offset)) (next-range h (commandAt job offset) r (f .range))))
+
+pub all-good : (job : List ℕ) → Bytes job → GoodJob (placed job)
+unfolding placed
+all-good job b = good-from 4097 job b 0 0 nothing nothing-range

@@ -1,0 +1,91 @@
+-- `capacity::run` meets its contract, in each of its three cases (Runs.antt), with demand 3 of the words written (Whole.antt).
+-- Assumes nothing.
+use mathlib.Core.Path.{_≡_, refl, sym, ap, _∙_, subst}
+use mathlib.Core.Bool.{true, false}
+use mathlib.Core.List.{List}
+use Prim.Native.Nat.{ℕ, _/_, _≤_}
+use native.Mathlib.Omega.{arith}
+use lib.IntN.{ℤ}
+use lib.ListN.{length}
+use borrow.Author.Needs.{needs}
+use Rattle.format.proofs.Numbers.{Bytes}
+use Rattle.job.specs.Answers.{rowsAnswer, refusedAnswer, rowCountAnswer, sizeOf}
+use Rattle.capacity.specs.Calls.{tooShortAnswer}
+use Rattle.capacity.specs.DemandThree.{DemandThree}
+use Rattle.capacity.proofs.Runs.{Accepted, refused-run, accepted-run, short-run, enough, full-run}
+use Rattle.capacity.proofs.Whole.{demand-three}
+use Rattle.capacity.proofs.run.Statement.{statement}
+use Rattle.capacity.proofs.run.Tie as tie
+
+differ : false ≡ true → ⊥
+differ e = let z : _≡_ {A = ℕ} 0 1 = cc in omega arith
+
+table-requires : tie.Need-table-requires
+table-requires c κs = search needs
+
+count-requires : tie.Need-count-requires
+count-requires c κs = search needs
+
+enum-known-counted : tie.Need-enum-known-counted
+enum-known-counted c = search needs
+
+enum-known-counted-2 : tie.Need-enum-known-counted-2
+enum-known-counted-2 c = search needs
+
+returns : tie.Need-returns
+returns c =
+    let k = c .before .before in
+    let n = k .before .before in
+    let s = n .before .before .before .before in
+    let e = sym (ap rowCountAnswer (k .counted2 .given .1)) ∙ n .count .ensures in
+    let r = short-run (s .args .job .now) _ (s .args .rows .now) (accepted-run (s .args .job .now) _ e) (c .if1 .taken) in
+    (r .0, (r .1, λ f. absurd (differ f)))
+
+write-requires : tie.Need-write-requires
+write-requires c κs = search needs
+
+returns-2 : tie.Need-returns-2
+returns-2 c =
+    let k = c .before in
+    let n = k .before .before in
+    let s = n .before .before .before .before in
+    let e = sym (ap rowCountAnswer (k .counted .given .1)) ∙ n .count .ensures in
+    let r = refused-run (s .args .job .now) _ _ (s .args .rows .now) e in
+    (r .0, (r .1, λ f. absurd (differ f)))
+
+same-length : tie.Need-same-length
+same-length c = search needs
+
+returns-3 : tie.Need-returns-3
+returns-3 c =
+    let w = c .before in
+    let i = w .before .before .before in
+    let k = i .before .before in
+    let n = k .before .before in
+    let s = n .before .before .before .before in
+    let e = sym (ap rowCountAnswer (k .counted2 .given .1)) ∙ n .count .ensures in
+    let a = accepted-run (s .args .job .now) _ e in
+    let fits = enough (s .args .job .now) _ (s .args .rows .now) a (i .if1 .left) in
+    let r = full-run (s .args .job .now) _ (s .args .rows .now) a (i .if1 .left) in
+    let written = w .write .ensures .written (a .commands) (a .is) fits in (
+      r .0,
+      (
+        written ∙ r .1,
+        λ f. subst (DemandThree (s .args .job .now)) (sym written)
+            (demand-three (s .args .job .now) (λ j. n .before .before .before .shared-slice-known .given j .fits) (a .commands) (a .is) _),
+      ),
+    )
+
+pub run-spec : {M : Type 1} → statement M
+run-spec =
+    tie.close
+    (tie.spec
+    table-requires
+    count-requires
+    enum-known-counted
+    enum-known-counted-2
+    returns
+    write-requires
+    returns-2
+    same-length
+    returns-3)

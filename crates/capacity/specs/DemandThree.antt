@@ -1,0 +1,105 @@
+-- Demand 3, one claim about a whole job and all the rows that `run` writes for it. 01, "Calls": "Demand 3 is one claim about a
+-- whole job and all the rows that run writes for it". For every placed command of the job and every row of it: the reported
+-- values, the reported strengths and the verdict are read off the words that `run` wrote; the exact values are made from the
+-- job's bytes alone. What `Hold` claims of a row is in the crate `claims`: no check passes whose exact demand exceeds its exact
+-- strength, no reported demand lies below the exact one, the excess stays under the amounts, whatever is clear by the amounts
+-- passes, and each of the bits 1, 2, 4, 8, 32 is clear exactly when all its checks pass.
+use mathlib.Core.Bool.{Bool, true, false}
+use mathlib.Core.List.{List, [], _∷_}
+use mathlib.Core.Option.{Option, none, some}
+use Prim.Native.Nat.{ℕ, _+_, _*_}
+use lib.IntN.{ℤ, pos}
+use lib.ListN.{length, getD}
+use lib.Signed.{_≤ℤ_}
+use Rattle.coefficient.specs.declared.Settings.{Settings}
+use Rattle.claims.specs.declared.Row.{Row}
+use Rattle.claims.specs.Claims.{Hold}
+use Rattle.members.specs.declared.Joint.{Joint}
+use Rattle.members.specs.Column.{columnClaims}
+use Rattle.members.specs.Beam.{beamClaims}
+use Rattle.members.specs.Hingeless.{hingelessClaims}
+use Rattle.members.specs.Detail.{detailClaims}
+use Rattle.walls.specs.declared.WallBase.{WallBase}
+use Rattle.walls.specs.Base.{baseClaims}
+use Rattle.walls.specs.Storey.{storeyClaims}
+use Rattle.footing.specs.declared.Footing.{Footing}
+use Rattle.footing.specs.Claimed.{footingClaims}
+use Rattle.format.specs.Commands.{Command, finish, settings, joint, column, beam, hingeless, wallBase, storey, soil, footing, detail}
+use Rattle.held.specs.Held.{Held, Ground}
+use Rattle.job.specs.Placed.{Placed, Job, refused, accepted, placed}
+
+-- what is claimed of a row, by its words 2 to 7
+abbrev pub Claim : Type 1
+Claim = Row → Type 0
+
+-- claims that want what holds at the command; an accepted job has it
+abbrev pub withSettings : Option Settings → (Settings → List Claim) → List Claim
+withSettings none claims = []
+withSettings (some s) claims = claims s
+
+abbrev pub withJoints : Option Joint → Option Joint → (Joint → Joint → List Claim) → List Claim
+withJoints none j claims = []
+withJoints (some i) none claims = []
+withJoints (some i) (some j) claims = claims i j
+
+abbrev pub withWall : Option WallBase → (WallBase → List Claim) → List Claim
+withWall none claims = []
+withWall (some b) claims = claims b
+
+abbrev pub withGround : Option Ground → (Ground → List Claim) → List Claim
+withGround none claims = []
+withGround (some g) claims = claims g
+
+-- nothing is claimed of a footing row whose reported N, word 2, is below 20,000
+abbrev pub footingClaim : Settings → Footing → Ground → Bool → Claim
+footingClaim s f g minus r = pos 20000 ≤ℤ r .word2 → Hold (footingClaims s f (g .soil) (g .sensitive) minus r)
+
+-- the claims of a command, one for each of its rows, in their order
+unfoldable pub claimsWith : Held → Settings → Command → List Claim
+claimsWith h s finish = []
+claimsWith h s (settings t) = []
+claimsWith h s (joint id j) = []
+claimsWith h s (column c) = (λ r. Hold (columnClaims (s .behaviour) c r)) ∷ []
+claimsWith h s (beam b) = (λ r. Hold (beamClaims (s .behaviour) b r)) ∷ []
+claimsWith h s (hingeless id1 id2 m) = withJoints (h .joints id1) (h .joints id2) (λ i j. (λ r. Hold (hingelessClaims s i j m r)) ∷ [])
+claimsWith h s (wallBase b) = (λ r. Hold (baseClaims (s .behaviour) b r)) ∷ []
+claimsWith h s (storey t) = withWall (h .wall) (λ b. (λ r. Hold (storeyClaims (s .behaviour) b t r)) ∷ [])
+claimsWith h s (soil t) = []
+claimsWith h s (footing f) = withGround (h .ground) (λ g. footingClaim s f g false ∷ footingClaim s f g true ∷ [])
+claimsWith h s (detail d) = (λ r. Hold (detailClaims d r)) ∷ []
+
+unfoldable pub claimsOf : Placed → List Claim
+unfolding claimsWith
+claimsOf p = withSettings (p .held .settings) (λ s. claimsWith (p .held) s (p .command))
+
+-- words 2 to 7 of row n, read off the slice
+abbrev pub rowRead : List ℤ → ℕ → Row
+rowRead words n =
+    record {
+      word2 = getD words (8 * n + 2) (pos 0);
+      word3 = getD words (8 * n + 3) (pos 0);
+      word4 = getD words (8 * n + 4) (pos 0);
+      word5 = getD words (8 * n + 5) (pos 0);
+      word6 = getD words (8 * n + 6) (pos 0);
+      verdict = getD words (8 * n + 7) (pos 0);
+    }
+
+-- the claims hold of the rows from row n on
+unfoldable pub RowsHold : List ℤ → ℕ → List Claim → Type 0
+RowsHold words n [] = Unit {0}
+RowsHold words n (c ∷ cs) = c (rowRead words n) × RowsHold words (n + 1) cs
+
+-- for every placed command, all its rows
+unfoldable pub AllHold : List ℤ → ℕ → List Placed → Type 0
+unfolding RowsHold claimsOf
+AllHold words n [] = Unit {0}
+AllHold words n (p ∷ ps) = RowsHold words n (claimsOf p) × AllHold words (n + length (claimsOf p)) ps
+
+-- of a job that is refused there are no rows
+abbrev pub JobHolds : List ℤ → Job → Type 0
+JobHolds words (refused number offset) = Unit {0}
+JobHolds words (accepted ps) = AllHold words 0 ps
+
+unfoldable pub DemandThree : List ℕ → List ℤ → Type 0
+unfolding placed AllHold
+DemandThree job words = JobHolds words (placed job)
