@@ -24,10 +24,10 @@ use Rattle.footing.specs.Rows.{FootingRange, footingRow}
 use Rattle.footing.proofs.Held.{footing-holds}
 use Rattle.format.specs.Commands.{Command, finish, settings, joint, column, beam, hingeless, wallBase, storey, soil, footing, detail, inRange}
 use Rattle.format.proofs.CommandRanges.{SettingsOperands, JointOperands, column-in-range, beam-in-range, hingeless-in-range, storey-in-range, footing-in-range, detail-in-range}
-use Rattle.held.specs.Held.{Held, Ground, absent, missing}
-use Rattle.held.specs.Rows.{rowsOf, rowsWith, withSettings as rowsWithSettings, withJoints as rowsWithJoints, withWall as rowsWithWall, withGround as rowsWithGround}
+use Rattle.held.specs.Held.{Held, Ground, whenGiven}
+use Rattle.held.specs.Rows.{rowsOf, rowsWith}
 use Rattle.job.specs.Placed.{Placed}
-use Rattle.capacity.specs.DemandThree.{Claim, footingClaim, claimsOf, claimsWith, withSettings as claimsWithSettings, withJoints as claimsWithJoints, withWall as claimsWithWall, withGround as claimsWithGround}
+use Rattle.capacity.specs.DemandThree.{Claim, footingClaim, claimsOf, claimsWith}
 use Rattle.capacity.proofs.Ranges.{HeldRange, SignedFit, Good}
 
 -- as many rows as claims, and each claim holds of its row
@@ -61,7 +61,7 @@ module _ (h : Held) (s : Settings) (range : HeldRange h) (so : SettingsOperands 
   with-settings (hingeless id1 id2 m) i f = two-joints (h .joints id1) (h .joints id2) (range .joints id1) (range .joints id2)
     where
       two-joints : (o1 o2 : Option Joint) → ((j : Joint) → o1 ≡ some j → JointOperands j) → ((j : Joint) → o2 ≡ some j → JointOperands j) →
-          Pairwise (claimsWithJoints o1 o2 (λ i j. (λ r. Hold (hingelessClaims s i j m r)) ∷ [])) (rowsWithJoints o1 o2 (λ i j. hingelessRow s i j m ∷ []))
+          Pairwise (whenGiven o1 (λ i. whenGiven o2 (λ j. (λ r. Hold (hingelessClaims s i j m r)) ∷ []))) (whenGiven o1 (λ i. whenGiven o2 (λ j. hingelessRow s i j m ∷ [])))
       two-joints none o2 r1 r2 = tt
       two-joints (some j1) none r1 r2 = tt
       two-joints (some j1) (some j2) r1 r2 =
@@ -73,7 +73,7 @@ module _ (h : Held) (s : Settings) (range : HeldRange h) (so : SettingsOperands 
   with-settings (wallBase b) i f = (base-holds (s .behaviour) b, tt)
   with-settings (storey x) i f = of-wall (h .wall)
     where
-      of-wall : (o : Option WallBase) → Pairwise (claimsWithWall o (λ b. (λ r. Hold (storeyClaims (s .behaviour) b x r)) ∷ [])) (rowsWithWall o (λ b. storeyRow (s .behaviour) b x ∷ []))
+      of-wall : (o : Option WallBase) → Pairwise (whenGiven o (λ b. (λ r. Hold (storeyClaims (s .behaviour) b x r)) ∷ [])) (whenGiven o (λ b. storeyRow (s .behaviour) b x ∷ []))
       of-wall none = tt
       of-wall (some b) =
           let o = storey-in-range x i in (
@@ -110,7 +110,7 @@ module _ (h : Held) (s : Settings) (range : HeldRange h) (so : SettingsOperands 
           }
 
       on-ground : (o : Option Ground) →
-          Pairwise (claimsWithGround o (λ g. footingClaim s x g false ∷ footingClaim s x g true ∷ [])) (rowsWithGround o (λ g. footingRow s x (g .soil) (g .sensitive) false ∷ footingRow s x (g .soil) (g .sensitive) true ∷ []))
+          Pairwise (whenGiven o (λ g. footingClaim s x g false ∷ footingClaim s x g true ∷ [])) (whenGiven o (λ g. footingRow s x (g .soil) (g .sensitive) false ∷ footingRow s x (g .soil) (g .sensitive) true ∷ []))
       on-ground none = tt
       on-ground (some g) = (footing-holds s x (g .soil) (g .sensitive) false in-range, (footing-holds s x (g .soil) (g .sensitive) true in-range, tt))
   with-settings (detail d) i f =
@@ -122,6 +122,6 @@ unfolding claimsOf rowsOf
 rows-true p g = given-settings (p .held .settings) (g .held .settings)
   where
     given-settings : (o : Option Settings) → ((s : Settings) → o ≡ some s → SettingsOperands s) →
-        Pairwise (claimsWithSettings o (λ s. claimsWith (p .held) s (p .command))) (rowsWithSettings o (λ s. rowsWith (p .held) s (p .command)))
+        Pairwise (whenGiven o (λ s. claimsWith (p .held) s (p .command))) (whenGiven o (λ s. rowsWith (p .held) s (p .command)))
     given-settings none r = tt
     given-settings (some s) r = with-settings (p .held) s (g .held) (r s refl) (p .command) (g .range) (g .signed)

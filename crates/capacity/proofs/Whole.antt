@@ -71,12 +71,15 @@ all-hold (p ∷ ps) before after n e g =
     let t = rows-true p (g .0) in
     let own = joined (rowsAt p) in
     let rest = joined (allRows ps) in
-    let split : joined (rowsAt p ++ allRows ps) ++ after ≡ own ++ (rest ++ after) = ap (λ (l : List ℤ). l ++ after) (joined-append (rowsAt p) (allRows ps)) ∙ append-assoc own rest after in (
+    let c : length (claimsOf p) ≡ length (rowsAt p) = claims-length (claimsOf p) rows t ∙ sym (length-map rows (words (p .offset) (byteOf (p .command)))) in
+    let split : joined (rowsAt p ++ allRows ps) ++ after ≡ own ++ (rest ++ after) =
+    ap (λ (l : List ℤ). l ++ after) (joined-append (rowsAt p) (allRows ps)) ∙ append-assoc own rest after in (
+      c,
       subst (λ (m : List ℤ). RowsHold (before ++ m) n (claimsOf p)) (sym split)
           (rows-hold (claimsOf p) rows before (rest ++ after) n (p .offset) (byteOf (p .command)) e t),
-      subst (λ (m : List ℤ). AllHold m (n + length (claimsOf p)) ps) (append-assoc before own (rest ++ after) ∙ ap (λ (l : List ℤ). before ++ l) (sym split))
-          (all-hold ps (before ++ own) after (n + length (claimsOf p))
-          (length-append before own ∙ omega (arith, e, joined-length (p .offset) (byteOf (p .command)) rows, claims-length (claimsOf p) rows t)) (g .1)),
+      subst (λ (m : List ℤ). AllHold m (n + length (rowsAt p)) ps) (append-assoc before own (rest ++ after) ∙ ap (λ (l : List ℤ). before ++ l) (sym split))
+          (all-hold ps (before ++ own) after (n + length (rowsAt p))
+          (length-append before own ∙ omega (arith, e, joined-length (p .offset) (byteOf (p .command)) rows, length-map rows (words (p .offset) (byteOf (p .command))))) (g .1)),
     )
 
 job-holds : (j : Job) (after : List ℤ) → GoodJob j → (ps : List Placed) → j ≡ accepted ps → JobHolds (joined (allRows ps) ++ after) j

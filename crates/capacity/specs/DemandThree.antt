@@ -4,9 +4,9 @@
 -- job's bytes alone. What `Hold` claims of a row is in the crate `claims`: no check passes whose exact demand exceeds its exact
 -- strength, no reported demand lies below the exact one, the excess stays under the amounts, whatever is clear by the amounts
 -- passes, and each of the bits 1, 2, 4, 8, 32 is clear exactly when all its checks pass.
+use mathlib.Core.Path.{_≡_}
 use mathlib.Core.Bool.{Bool, true, false}
 use mathlib.Core.List.{List, [], _∷_}
-use mathlib.Core.Option.{Option, none, some}
 use Prim.Native.Nat.{ℕ, _+_, _*_}
 use lib.IntN.{ℤ, pos}
 use lib.ListN.{length, getD}
@@ -14,41 +14,21 @@ use lib.Signed.{_≤ℤ_}
 use Rattle.coefficient.specs.declared.Settings.{Settings}
 use Rattle.claims.specs.declared.Row.{Row}
 use Rattle.claims.specs.Claims.{Hold}
-use Rattle.members.specs.declared.Joint.{Joint}
 use Rattle.members.specs.Column.{columnClaims}
 use Rattle.members.specs.Beam.{beamClaims}
 use Rattle.members.specs.Hingeless.{hingelessClaims}
 use Rattle.members.specs.Detail.{detailClaims}
-use Rattle.walls.specs.declared.WallBase.{WallBase}
 use Rattle.walls.specs.Base.{baseClaims}
 use Rattle.walls.specs.Storey.{storeyClaims}
 use Rattle.footing.specs.declared.Footing.{Footing}
 use Rattle.footing.specs.Claimed.{footingClaims}
 use Rattle.format.specs.Commands.{Command, finish, settings, joint, column, beam, hingeless, wallBase, storey, soil, footing, detail}
-use Rattle.held.specs.Held.{Held, Ground}
-use Rattle.job.specs.Placed.{Placed, Job, refused, accepted, placed}
+use Rattle.held.specs.Held.{Held, Ground, whenGiven}
+use Rattle.job.specs.Placed.{Placed, Job, refused, accepted, placed, rowsAt}
 
 -- what is claimed of a row, by its words 2 to 7
 abbrev pub Claim : Type 1
 Claim = Row → Type 0
-
--- claims that want what holds at the command; an accepted job has it
-abbrev pub withSettings : Option Settings → (Settings → List Claim) → List Claim
-withSettings none claims = []
-withSettings (some s) claims = claims s
-
-abbrev pub withJoints : Option Joint → Option Joint → (Joint → Joint → List Claim) → List Claim
-withJoints none j claims = []
-withJoints (some i) none claims = []
-withJoints (some i) (some j) claims = claims i j
-
-abbrev pub withWall : Option WallBase → (WallBase → List Claim) → List Claim
-withWall none claims = []
-withWall (some b) claims = claims b
-
-abbrev pub withGround : Option Ground → (Ground → List Claim) → List Claim
-withGround none claims = []
-withGround (some g) claims = claims g
 
 -- nothing is claimed of a footing row whose reported N, word 2, is below 20,000
 abbrev pub footingClaim : Settings → Footing → Ground → Bool → Claim
@@ -61,16 +41,16 @@ claimsWith h s (settings t) = []
 claimsWith h s (joint id j) = []
 claimsWith h s (column c) = (λ r. Hold (columnClaims (s .behaviour) c r)) ∷ []
 claimsWith h s (beam b) = (λ r. Hold (beamClaims (s .behaviour) b r)) ∷ []
-claimsWith h s (hingeless id1 id2 m) = withJoints (h .joints id1) (h .joints id2) (λ i j. (λ r. Hold (hingelessClaims s i j m r)) ∷ [])
+claimsWith h s (hingeless id1 id2 m) = whenGiven (h .joints id1) (λ i. whenGiven (h .joints id2) (λ j. (λ r. Hold (hingelessClaims s i j m r)) ∷ []))
 claimsWith h s (wallBase b) = (λ r. Hold (baseClaims (s .behaviour) b r)) ∷ []
-claimsWith h s (storey t) = withWall (h .wall) (λ b. (λ r. Hold (storeyClaims (s .behaviour) b t r)) ∷ [])
+claimsWith h s (storey t) = whenGiven (h .wall) (λ b. (λ r. Hold (storeyClaims (s .behaviour) b t r)) ∷ [])
 claimsWith h s (soil t) = []
-claimsWith h s (footing f) = withGround (h .ground) (λ g. footingClaim s f g false ∷ footingClaim s f g true ∷ [])
+claimsWith h s (footing f) = whenGiven (h .ground) (λ g. footingClaim s f g false ∷ footingClaim s f g true ∷ [])
 claimsWith h s (detail d) = (λ r. Hold (detailClaims d r)) ∷ []
 
 unfoldable pub claimsOf : Placed → List Claim
 unfolding claimsWith
-claimsOf p = withSettings (p .held .settings) (λ s. claimsWith (p .held) s (p .command))
+claimsOf p = whenGiven (p .held .settings) (λ s. claimsWith (p .held) s (p .command))
 
 -- words 2 to 7 of row n, read off the slice
 abbrev pub rowRead : List ℤ → ℕ → Row
@@ -89,11 +69,12 @@ unfoldable pub RowsHold : List ℤ → ℕ → List Claim → Type 0
 RowsHold words n [] = Unit {0}
 RowsHold words n (c ∷ cs) = c (rowRead words n) × RowsHold words (n + 1) cs
 
--- for every placed command, all its rows
+-- for every placed command, all its rows: as many claims as rows, and each claim holds of its row
 unfoldable pub AllHold : List ℤ → ℕ → List Placed → Type 0
 unfolding RowsHold claimsOf
 AllHold words n [] = Unit {0}
-AllHold words n (p ∷ ps) = RowsHold words n (claimsOf p) × AllHold words (n + length (claimsOf p)) ps
+AllHold words n (p ∷ ps) =
+    (length (claimsOf p) ≡ length (rowsAt p)) × RowsHold words n (claimsOf p) × AllHold words (n + length (rowsAt p)) ps
 
 -- of a job that is refused there are no rows
 abbrev pub JobHolds : List ℤ → Job → Type 0

@@ -1,9 +1,10 @@
 -- The laws of what holds that a walk over a job uses: sound states and tables stay sound, a table keeps its length, a command has at
 -- most two rows, and what written rows leave. Assumes nothing.
 use mathlib.Core.List.{List, [], _∷_, _++_, map}
-use mathlib.Core.Path.{_≡_, refl}
-use Prim.Native.Nat.{ℕ, zero, suc, _+_, _*_, _≤_}
+use mathlib.Core.Path.{_≡_, refl, sym}
+use Prim.Native.Nat.{ℕ, zero, suc, _+_, _*_, _≤_, _<_}
 use native.Mathlib.Omega.{arith}
+use borrow.Author.Tests.{ne-eqb}
 use lib.IntN.{ℤ}
 use lib.ListN.{length, getD, take, drop, set, length-set}
 use Rattle.claims.specs.declared.Row.{Row}
@@ -14,7 +15,7 @@ use Rattle.format.proofs.KnownBytes.{each-byte, command-above}
 use Rattle.format.proofs.CommandRanges.{joint-operands}
 use Rattle.held.specs.declared.State.{State}
 use Rattle.held.specs.Rows.{words}
-use Rattle.held.specs.Running.{jointStored, nextJoints, startState, withSettings, withWall, withGround, nextState, rowsFrom, storedAll, joined, Checked, SoundState, SoundJoints}
+use Rattle.held.specs.Running.{jointStored, nextJoints, startState, withSettings, withWall, withGround, nextState, rowsFrom, rowsOfByte, storedAll, joined, Checked, SoundState, SoundJoints}
 use Rattle.held.proofs.Ranges.{settings-range, wall-base-range}
 use Rattle.held.proofs.Memory as memory
 
@@ -128,3 +129,17 @@ storedAll-empty = memory.storedAll-empty
 pub storedAll-fits : (m : List ℤ) (n : ℕ) (rows : List (List ℤ)) → Eights rows → 8 * (n + length rows) ≤ length m →
     storedAll m n rows ≡ take (8 * n) m ++ joined rows ++ drop (8 * (n + length rows)) m
 storedAll-fits = memory.storedAll-fits
+
+-- a command has as many rows as its byte says
+pub rows-of-byte : (t : State) (joints : List ℕ) (command : ℕ) (v : ℕ → ℕ) → length (rowsFrom t joints (commandOf command v)) ≡ rowsOfByte command
+unfolding rowsFrom commandOf rowsOfByte
+rows-of-byte t joints command v =
+    each-byte (λ b. length (rowsFrom t joints (commandOf b v)) ≡ rowsOfByte b) refl refl refl refl refl refl refl refl refl refl refl
+    (λ b h. rw (command-above b v h) (sym (none-above b h))) command
+  where
+    none-above : (b : ℕ) → 10 < b → rowsOfByte b ≡ 0
+    none-above b h =
+        rw (ne-eqb b 9 (omega arith), ne-eqb b 3 (omega arith), ne-eqb b 4 (omega arith), ne-eqb b 5 (omega arith), ne-eqb b 6 (omega arith), ne-eqb b 7 (omega arith), ne-eqb b 10 (omega arith))
+
+pub storedAll-none : (m : List ℤ) (n : ℕ) (rows : List (List ℤ)) → length m < 8 * n + 8 → storedAll m n rows ≡ m
+storedAll-none = memory.storedAll-none

@@ -116,3 +116,9 @@ pub two-rows : (m : List ℤ) (n offset byte : ℕ) (first second : Row) (rows :
     e ≡ stored (stored m n (words offset byte first)) (n + 1) (words offset byte second) → (r ≡ n + length rows) × (e ≡ storedAll m n (map (words offset byte) rows))
 unfolding storedAll
 two-rows m n offset byte first second rows h p q = rw h (p, q)
+
+-- where there is no room for the first row there is none for a later one
+pub storedAll-none : (m : List ℤ) (n : ℕ) (rows : List (List ℤ)) → length m < 8 * n + 8 → storedAll m n rows ≡ m
+unfolding storedAll stored
+storedAll-none m n [] h = refl
+storedAll-none m n (r ∷ rs) h = rw (lt-leb (8 * n + 8) (length m) h) (storedAll-none m (n + 1) rs (omega arith))

@@ -22,8 +22,8 @@ use Rattle.walls.specs.Running.{wallOf}
 use Rattle.walls.proofs.Running.{base-row-of, storey-row-of}
 use Rattle.format.specs.Commands.{Command, finish, settings, joint, column, beam, hingeless, wallBase, storey, soil, footing, detail}
 use Rattle.held.specs.declared.State.{State}
-use Rattle.held.specs.Held.{Held, Ground, groundOf, nothing, next, withJoint, given, missing, absent, repeated}
-use Rattle.held.specs.Rows.{rowsOf, rowsWith, withSettings as rowsWithSettings}
+use Rattle.held.specs.Held.{Held, Ground, groundOf, nothing, next, withJoint, given, missing, whenGiven, absent, repeated}
+use Rattle.held.specs.Rows.{rowsOf, rowsWith}
 use Rattle.held.specs.Running.{jointGiven, jointHeld, nextJoints, nextState, withSettings, withWall, withGround, absentIn, repeatedIn, rowsFrom}
 
 -- what was given, or nothing
@@ -74,7 +74,7 @@ present : {A : Type 0} (b : Bool) (a : A) (o : Option A) → o ≡ shown b a →
 present true a o e m = e
 present false a o e m = absurd (differ (sym (ap missing e) ∙ m))
 
-no-rows : (o : Option Settings) → rowsWithSettings o (λ s. []) ≡ []
+no-rows : (o : Option Settings) → whenGiven {B = Row} o (λ s. []) ≡ []
 no-rows none = refl
 no-rows (some s) = refl
 

@@ -1,6 +1,7 @@
 -- What holds at a command: settings, joints by id, the latest wall base as it was given, the latest soil with its
 -- sensitivity; and how a command changes it. 01, "Job commands".
 use mathlib.Core.Bool.{Bool, true, false, _||_, cond}
+use mathlib.Core.List.{List, []}
 use mathlib.Core.Option.{Option, none, some}
 use Prim.Native.Nat.{ℕ}
 use lib.Dec.{eqb}
@@ -55,6 +56,11 @@ given (some a) = true
 abbrev pub missing {ℓ} : {A : Type ℓ} → Option A → Bool
 missing none = true
 missing (some a) = false
+
+-- what is made of a thing that holds, and nothing where it does not
+abbrev pub whenGiven {ℓ κ} : {A : Type ℓ} {B : Type κ} → Option A → (A → List B) → List B
+whenGiven none f = []
+whenGiven (some a) f = f a
 
 -- refusal 6: joint id not yet given, storey without base, footing without soil
 unfoldable pub absent : Held → Command → Bool

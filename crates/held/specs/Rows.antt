@@ -2,62 +2,38 @@
 -- that hold at the row's command"; commands 01, 02, 08 write none.
 use mathlib.Core.Bool.{true, false}
 use mathlib.Core.List.{List, [], _∷_}
-use mathlib.Core.Option.{Option, none, some}
 use Prim.Native.Nat.{ℕ}
 use lib.IntN.{ℤ, pos}
-use Rattle.soil.specs.declared.Soil.{Soil}
 use Rattle.coefficient.specs.declared.Settings.{Settings}
 use Rattle.claims.specs.declared.Row.{Row}
-use Rattle.members.specs.declared.Joint.{Joint}
-use Rattle.members.specs.declared.Hingeless.{Hingeless}
 use Rattle.members.specs.Column.{columnRow}
 use Rattle.members.specs.Beam.{beamRow}
 use Rattle.members.specs.Hingeless.{hingelessRow}
 use Rattle.members.specs.Detail.{detailRow}
-use Rattle.walls.specs.declared.WallBase.{WallBase}
-use Rattle.walls.specs.declared.Storey.{Storey}
 use Rattle.walls.specs.Base.{baseRow}
 use Rattle.walls.specs.Storey.{storeyRow}
-use Rattle.footing.specs.declared.Footing.{Footing}
 use Rattle.footing.specs.Rows.{footingRow}
 use Rattle.format.specs.Commands.{Command, finish, settings, joint, column, beam, hingeless, wallBase, storey, soil, footing, detail}
-use Rattle.held.specs.Held.{Held, Ground}
+use Rattle.held.specs.Held.{Held, whenGiven}
 
--- rows that want settings: none where these are not given, as in no accepted job
-abbrev pub withSettings : Option Settings → (Settings → List Row) → List Row
-withSettings none rows = []
-withSettings (some s) rows = rows s
-
-abbrev pub withJoints : Option Joint → Option Joint → (Joint → Joint → List Row) → List Row
-withJoints none j rows = []
-withJoints (some i) none rows = []
-withJoints (some i) (some j) rows = rows i j
-
-abbrev pub withWall : Option WallBase → (WallBase → List Row) → List Row
-withWall none rows = []
-withWall (some b) rows = rows b
-
-abbrev pub withGround : Option Ground → (Ground → List Row) → List Row
-withGround none rows = []
-withGround (some g) rows = rows g
-
+-- by the settings; an accepted job has what its commands want (refusals 4 and 6)
 unfoldable pub rowsWith : Held → Settings → Command → List Row
 rowsWith h s finish = []
 rowsWith h s (settings t) = []
 rowsWith h s (joint id j) = []
 rowsWith h s (column c) = columnRow (s .behaviour) c ∷ []
 rowsWith h s (beam b) = beamRow (s .behaviour) b ∷ []
-rowsWith h s (hingeless id1 id2 m) = withJoints (h .joints id1) (h .joints id2) (λ i j. hingelessRow s i j m ∷ [])
+rowsWith h s (hingeless id1 id2 m) = whenGiven (h .joints id1) (λ i. whenGiven (h .joints id2) (λ j. hingelessRow s i j m ∷ []))
 rowsWith h s (wallBase b) = baseRow (s .behaviour) b ∷ []
-rowsWith h s (storey t) = withWall (h .wall) (λ b. storeyRow (s .behaviour) b t ∷ [])
+rowsWith h s (storey t) = whenGiven (h .wall) (λ b. storeyRow (s .behaviour) b t ∷ [])
 rowsWith h s (soil t) = []
 -- both directions, sign + then −
-rowsWith h s (footing f) = withGround (h .ground) (λ g. footingRow s f (g .soil) (g .sensitive) false ∷ footingRow s f (g .soil) (g .sensitive) true ∷ [])
+rowsWith h s (footing f) = whenGiven (h .ground) (λ g. footingRow s f (g .soil) (g .sensitive) false ∷ footingRow s f (g .soil) (g .sensitive) true ∷ [])
 rowsWith h s (detail d) = detailRow d ∷ []
 
 unfoldable pub rowsOf : Held → Command → List Row
 unfolding rowsWith
-rowsOf h c = withSettings (h .settings) (λ s. rowsWith h s c)
+rowsOf h c = whenGiven (h .settings) (λ s. rowsWith h s c)
 
 -- the eight words of a row: the byte offset of the command, its byte, then words 2 to 7
 abbrev pub words : ℕ → ℕ → Row → List ℤ

@@ -140,6 +140,11 @@ rowsFrom t joints (footing f) =
     footingRow (t .settings) f (t .soil) (t .sensitive) false ∷ footingRow (t .settings) f (t .soil) (t .sensitive) true ∷ []
 rowsFrom t joints (detail d) = detailRow d ∷ []
 
+-- how many they are, by the command's byte
+unfoldable pub rowsOfByte : ℕ → ℕ
+rowsOfByte byte =
+    cond (eqb byte 9) 2 (cond (eqb byte 3 || eqb byte 4 || eqb byte 5 || eqb byte 6 || eqb byte 7 || eqb byte 10) 1 0)
+
 -- ---- writing rows: row n of a slice of words is written where there is room for it
 
 unfoldable pub stored : List ℤ → ℕ → List ℤ → List ℤ

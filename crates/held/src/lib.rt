@@ -26,7 +26,7 @@ ghost use Rattle.footing.specs.Rows.{footingRow};
 ghost use Rattle.format.specs.Commands.{commandOf, columnOf, beamOf, hingelessOf, wallBaseOf, storeyOf, footingOf, detailOf};
 ghost use Rattle.held.specs.Held.{groundOf};
 ghost use Rattle.held.specs.Rows.{words};
-ghost use Rattle.held.specs.Running.{jointGiven, jointHeld, jointStored, nextJoints, startState, withSettings, withWall, withGround, nextState, absentIn, repeatedIn, rowsFrom, stored, storedAll, Checked, SettingsRange, SoundJoints, NextAsks, EmitAsks};
+ghost use Rattle.held.specs.Running.{rowsOfByte, jointGiven, jointHeld, jointStored, nextJoints, startState, withSettings, withWall, withGround, nextState, absentIn, repeatedIn, rowsFrom, stored, storedAll, Checked, SettingsRange, SoundJoints, NextAsks, EmitAsks};
 
 // Settings, the running values of the latest wall, the latest soil; each with whether it was given.
 pub struct State {
@@ -372,7 +372,7 @@ fn put_footing(
 }
 
 // The rows of a command from the state and the table after it, from row n on; answers the number of the row after them.
-pub fn emit(
+fn write_rows(
     rows: &mut [i64],
     n: usize,
     offset: usize,
@@ -411,4 +411,44 @@ pub fn emit(
         10 => put_row(rows, n, offset, command, detail(operands)),
         _ => n,
     }
+}
+
+// The number of rows of a command.
+fn row_count(command: u8) -> usize
+    ensures { λ r. ⌜ r ≡ rowsOfByte command ⌝ }
+{
+    match command {
+        3 => 1,
+        4 => 1,
+        5 => 1,
+        6 => 1,
+        7 => 1,
+        9 => 2,
+        10 => 1,
+        _ => 0,
+    }
+}
+
+// The rows of a command, made and written only where there is room for the first; answers the next row's number.
+pub fn emit(
+    rows: &mut [i64],
+    n: usize,
+    offset: usize,
+    state: State,
+    joints: &[u32],
+    table: &[u64; 1001],
+    command: u8,
+    operands: &[u32; 16],
+) -> usize
+    requires table { ⌜ IsCubes (now table) ⌝ }
+    requires asks { ⌜ EmitAsks state (now joints) command (λ i. getD (now operands) i 0) ⌝ }
+    requires rows { ⌜ n ≤ 8192 ⌝ }
+    requires offset { ⌜ offset < 2 ^ 63 ⌝ }
+    ensures count { λ r. ⌜ r ≡ n + length (rowsFrom state (now (joints .entry)) (commandOf command (λ i. getD (now (operands .entry)) i 0))) ⌝ }
+    ensures memory { λ r. ⌜ now (rows .exit) ≡ storedAll (now (rows .entry)) n (map (words offset command) (rowsFrom state (now (joints .entry)) (commandOf command (λ i. getD (now (operands .entry)) i 0)))) ⌝ }
+{
+    if 8 * n + 8 <= rows.len() {
+        return write_rows(rows, n, offset, state, joints, table, command, operands);
+    }
+    n + row_count(command)
 }

@@ -23,6 +23,7 @@ use Rattle.format.proofs.OperandsRead.{operands-fit}
 use Rattle.held.specs.Held.{Held, given, next, absent, repeated}
 use Rattle.held.specs.Rows.{rowsOf, words}
 use Rattle.held.specs.Running.{nextState, nextJoints, absentIn, repeatedIn, rowsFrom, stored, storedAll}
+use Rattle.held.proofs.Laws.{storedAll-append}
 use Rattle.held.proofs.Shown.{Shows, IdsFit, InPlace, settings-given, absent-same, repeated-same, shows-next, rows-same}
 use Rattle.job.specs.declared.Place.{Place}
 use Rattle.job.specs.declared.Walked.{Walked}
@@ -130,15 +131,6 @@ abbrev pub Matches : Job → Final → ℕ → List ℤ → Type 0
 Matches (refused number offset) f n memory = f .answer ≡ Refused number offset
 Matches (accepted ps) f n memory = (f .answer ≡ Finished (n + length (allRows ps))) × (f .memory ≡ storedAll memory n (allRows ps))
 
-append-stored : (memory : List ℤ) (n : ℕ) (xs ys : List (List ℤ)) → storedAll memory n (xs ++ ys) ≡ storedAll (storedAll memory n xs) (n + length xs) ys
-unfolding storedAll
-append-stored memory n [] ys = ap (λ (k : ℕ). storedAll memory k ys) (sym (add-zero n))
-append-stored memory n (x ∷ xs) ys =
-    append-stored (stored memory n x) (n + 1) xs ys ∙ ap (λ (k : ℕ). storedAll (storedAll (stored memory n x) (n + 1) xs) k ys) (shift n (length xs))
-  where
-    shift : (n k : ℕ) → n + 1 + k ≡ n + suc k
-    shift n k = omega arith
-
 -- one placed command in front
 in-front : (p : Placed) (j : Job) (f : Final) (n : ℕ) (memory : List ℤ) (rows : List (List ℤ)) → rows ≡ rowsAt p →
     Matches j f (n + length rows) (storedAll memory n rows) → Matches (before p j) f n memory
@@ -146,7 +138,7 @@ unfolding allRows
 in-front p (refused number offset) f n memory rows e m = m
 in-front p (accepted ps) f n memory rows e m = (
   m .0 ∙ ap Finished (count ∙ ap (λ (l : List (List ℤ)). n + length (l ++ allRows ps)) e),
-  m .1 ∙ sym (append-stored memory n rows (allRows ps)) ∙ ap (λ (l : List (List ℤ)). storedAll memory n (l ++ allRows ps)) e,
+  m .1 ∙ sym (storedAll-append memory n rows (allRows ps)) ∙ ap (λ (l : List (List ℤ)). storedAll memory n (l ++ allRows ps)) e,
 )
   where
     count : n + length rows + length (allRows ps) ≡ n + length (rows ++ allRows ps)
