@@ -1,13 +1,11 @@
 -- Every placed command of an accepted job is in range, and so is what holds at it. Assumes nothing.
-use mathlib.Core.Path.{_≡_, refl, sym, ap, _∙_, subst}
-use mathlib.Core.Bool.{Bool, true, false, not, cond}
+use mathlib.Core.Path.{_≡_, refl, sym, _∙_, subst}
+use mathlib.Core.Bool.{true, false}
 use mathlib.Core.List.{List, [], _∷_}
-use mathlib.Core.Option.{Option, none, some, Option·some-injective, Option·none-ne-some}
-use Prim.Native.Nat.{ℕ, zero, suc, _+_, _≤_, _<_}
-use native.Mathlib.Omega.{arith}
-use native.Mathlib.Decide.{decLe, ℕ-discrete}
-use lib.Dec.{eqb, lit<}
-use lib.ListN.{length}
+use mathlib.Core.Option.{some, Option·some-injective, Option·none-ne-some}
+use Prim.Native.Nat.{ℕ, zero, suc, _+_, _<_}
+use native.Mathlib.Decide.{ℕ-discrete}
+use lib.Dec.{lit<}
 use mir.Syntax.{w32}
 use mir.Val.{SFits}
 use borrow.Author.Tests.{eq-eqb, ne-eqb}
@@ -23,11 +21,11 @@ use Rattle.format.proofs.KnownBytes.{each-byte, command-above}
 use Rattle.format.proofs.RoundTrip.{Fit, at}
 use Rattle.format.proofs.OperandsRead.{operands-fit}
 use Rattle.format.proofs.CommandRanges.{SettingsOperands, JointOperands, WallBaseOperands, FootingFits, settings-in-range, joint-in-range, wall-base-in-range}
-use Rattle.held.specs.Held.{Held, nothing, next, withJoint, given, absent}
-use Rattle.job.specs.Faults.{faultAt, afterCommand}
+use Rattle.held.specs.Held.{Held, nothing, next, withJoint, absent}
+use Rattle.job.specs.Faults.{afterCommand}
 use Rattle.job.specs.Placed.{Placed, Job, refused, accepted, before, placedFrom, placed}
 use Rattle.job.proofs.PlacedCases.{placedAt, restAfter, by-cases}
-use Rattle.job.proofs.Simulation.{Faultless, faultless}
+use Rattle.job.proofs.Simulation.{faultless}
 
 -- what holds is in range
 pub record HeldRange (h : Held) : Type 0 where

@@ -1,24 +1,19 @@
 -- The claims of every placed command hold of its rows as the specification has them. Assumes nothing.
-use mathlib.Core.Path.{_≡_, refl, sym, ap, _∙_, subst}
-use mathlib.Core.Bool.{Bool, true, false, _||_}
+use mathlib.Core.Path.{_≡_, refl}
+use mathlib.Core.Bool.{true, false}
 use mathlib.Core.List.{List, [], _∷_}
 use mathlib.Core.Option.{Option, none, some}
-use Prim.Native.Nat.{ℕ}
 use Rattle.coefficient.specs.declared.Settings.{Settings}
 use Rattle.claims.specs.declared.Row.{Row}
 use Rattle.claims.specs.Claims.{Hold}
 use Rattle.members.specs.declared.Joint.{Joint}
-use Rattle.members.specs.declared.Column.{Column}
-use Rattle.members.specs.Column.{ColumnRange, columnRow, columnClaims}
-use Rattle.members.specs.Beam.{BeamRange}
-use Rattle.members.specs.Hingeless.{JointRange, HingelessRange, hingelessRow, hingelessClaims}
-use Rattle.members.specs.Detail.{DetailRange}
+use Rattle.members.specs.Hingeless.{JointRange, hingelessRow, hingelessClaims}
 use Rattle.members.proofs.ColumnHolds.{column-holds}
 use Rattle.members.proofs.BeamHolds.{beam-holds}
 use Rattle.members.proofs.HingelessHolds.{hingeless-holds}
 use Rattle.members.proofs.DetailHolds.{detail-holds}
 use Rattle.walls.specs.declared.WallBase.{WallBase}
-use Rattle.walls.specs.Storey.{StoreyRange, storeyRow, storeyClaims}
+use Rattle.walls.specs.Storey.{storeyRow, storeyClaims}
 use Rattle.walls.proofs.Rows.{base-holds, storey-holds}
 use Rattle.footing.specs.Rows.{FootingRange, footingRow}
 use Rattle.footing.proofs.Held.{footing-holds}

@@ -1,19 +1,19 @@
 -- Demand 3 of the words that hold a job's rows: row n is read back as it was made, so every claim holds of it. Assumes nothing.
 use mathlib.Core.Path.{_≡_, refl, sym, ap, _∙_, subst}
 use mathlib.Core.List.{List, [], _∷_, _++_, map, append-assoc}
-use Prim.Native.Nat.{ℕ, zero, suc, _+_, _*_, _≤_, _<_}
+use Prim.Native.Nat.{ℕ, suc, _+_, _*_}
 use native.Mathlib.Omega.{arith}
 use lib.IntN.{ℤ, pos}
-use lib.ListN.{length, getD, length-append, length-map, drop}
+use lib.ListN.{length, length-append, length-map}
 use lib.Seq.{getD-append-add}
 use Rattle.claims.specs.declared.Row.{Row}
 use Rattle.format.specs.Commands.{byteOf}
 use Rattle.format.proofs.Numbers.{Bytes}
 use Rattle.held.specs.Rows.{rowsOf, words}
 use Rattle.held.specs.Running.{joined}
-use Rattle.job.specs.Placed.{Placed, Job, refused, accepted, placed, rowsAt, allRows}
+use Rattle.job.specs.Placed.{Placed, Job, accepted, placed, rowsAt, allRows}
 use Rattle.capacity.specs.DemandThree.{Claim, claimsOf, rowRead, RowsHold, AllHold, JobHolds, DemandThree}
-use Rattle.capacity.proofs.Ranges.{Good, AllGood, GoodJob, all-good}
+use Rattle.capacity.proofs.Ranges.{AllGood, GoodJob, all-good}
 use Rattle.capacity.proofs.RowsTrue.{Pairwise, rows-true}
 
 -- row n behind 8·n words is read back

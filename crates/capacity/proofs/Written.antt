@@ -1,15 +1,15 @@
 -- The walk from the start writes the rows of an accepted job where they fit. Assumes nothing.
-use mathlib.Core.Path.{_≡_, refl, sym, ap, _∙_, subst}
-use mathlib.Core.List.{List, [], _∷_, _++_, map}
+use mathlib.Core.Path.{_≡_, _∙_, subst}
+use mathlib.Core.List.{List, [], _∷_, _++_}
 use Prim.Native.Nat.{ℕ, _+_, _*_, _≤_}
 use native.Mathlib.Omega.{arith}
-use native.Mathlib.Nat.{zero-add, mul-zero}
+use native.Mathlib.Nat.{zero-add}
 use lib.IntN.{ℤ}
-use lib.ListN.{length, take, drop}
+use lib.ListN.{length, drop}
 use Rattle.format.specs.Commands.{byteOf}
 use Rattle.format.proofs.Numbers.{Bytes}
 use Rattle.held.specs.Rows.{rowsOf}
-use Rattle.held.specs.Running.{joined, storedAll}
+use Rattle.held.specs.Running.{joined}
 use Rattle.held.proofs.Laws.{Eights, words-eight, storedAll-fits}
 use Rattle.job.specs.Placed.{Placed, Job, accepted, placed, rowsAt, allRows}
 use Rattle.job.specs.Walking.{Final, firstPlace, walkFrom}

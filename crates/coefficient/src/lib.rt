@@ -1,7 +1,7 @@
 // The capacity coefficient, 01, "Capacity coefficient": a = g·R/(100·E), at most q/100; E = 0 gives q/100. It stays an exact
 // fraction, a pair of whole numbers. The smaller-of function serves it, the column and the beam.
 ghost use mathlib.Core.Path.{_≡_};
-ghost use Prim.Native.Nat.{_*_, _^_, _<_};
+ghost use Prim.Native.Nat.{_*_, _<_};
 ghost use Rattle.exact.specs.Fraction.{whole, _*F_, upF, smaller as smallerOf};
 ghost use Rattle.coefficient.specs.Coefficient.{fraction, coefficientOf, Comparable, CoefficientRange, ProductFits};
 

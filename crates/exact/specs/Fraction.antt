@@ -1,6 +1,6 @@
 -- Fractions over the naturals, never reduced and never rounded. The order is by cross-multiplication, so it says
 -- something only of proper fractions, whose denominators are positive: each exact value has a proof that it is one.
-use mathlib.Core.Bool.{Bool, true, false, cond}
+use mathlib.Core.Bool.{Bool, cond}
 use Prim.Native.Nat.{ℕ, _+_, _-_, _*_, _≤_, _<_}
 use lib.Dec.{leb}
 use Rattle.exact.specs.Quotient.{up, down}

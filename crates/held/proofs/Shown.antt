@@ -1,13 +1,12 @@
 -- A state and a table of joints show what holds: the refusals 6 and 7, the rows of a command, and what holds after it, are the
 -- same off both. The wall's running values are those of the latest base as it was given. Assumes nothing.
 use mathlib.Core.Path.{_≡_, refl, sym, ap, ap₂, _∙_, subst}
-use mathlib.Core.Bool.{Bool, true, false, not, _||_, cond}
+use mathlib.Core.Bool.{Bool, true, false, not, _||_}
 use mathlib.Core.List.{List, [], _∷_}
 use mathlib.Core.Option.{Option, none, some}
-use Prim.Native.Nat.{ℕ, zero, suc, _+_, _*_, _≤_, _<_}
+use Prim.Native.Nat.{ℕ, _+_, _*_, _<_}
 use native.Mathlib.Omega.{arith}
 use native.Mathlib.Decide.{ℕ-discrete}
-use lib.Dec.{eqb}
 use lib.ListN.{length, getD, set, length-set}
 use lib.Seq.{getD-set-same, getD-set-other}
 use borrow.Author.Tests.{eq-eqb, ne-eqb}
@@ -22,7 +21,7 @@ use Rattle.walls.specs.Running.{wallOf}
 use Rattle.walls.proofs.Running.{base-row-of, storey-row-of}
 use Rattle.format.specs.Commands.{Command, finish, settings, joint, column, beam, hingeless, wallBase, storey, soil, footing, detail}
 use Rattle.held.specs.declared.State.{State}
-use Rattle.held.specs.Held.{Held, Ground, groundOf, nothing, next, withJoint, given, missing, whenGiven, absent, repeated}
+use Rattle.held.specs.Held.{Held, next, withJoint, given, missing, whenGiven, absent, repeated}
 use Rattle.held.specs.Rows.{rowsOf, rowsWith}
 use Rattle.held.specs.Running.{jointGiven, jointHeld, nextJoints, nextState, withSettings, withWall, withGround, absentIn, repeatedIn, rowsFrom}
 

@@ -3,22 +3,21 @@
 use mathlib.Core.Path.{_≡_, refl, sym, ap, _∙_, subst}
 use mathlib.Core.List.{List}
 use mathlib.Core.Option.{none}
-use Prim.Native.Nat.{ℕ, zero, suc, _+_, _*_, _≤_, _<_}
+use Prim.Native.Nat.{ℕ, _*_, _≤_}
 use native.Mathlib.Omega.{arith}
 use lib.Dec.{lit≤}
 use lib.IntN.{ℤ}
-use lib.ListN.{length, getD, replicate, length-replicate}
+use lib.ListN.{replicate, length-replicate}
 use Rattle.format.proofs.Numbers.{Bytes}
 use Rattle.held.specs.Held.{nothing}
 use Rattle.held.specs.Running.{startState, jointGiven, jointHeld, SoundJoints}
 use Rattle.held.proofs.Laws.{start-sound}
 use Rattle.held.proofs.Shown.{Shows, shown}
-use Rattle.job.specs.declared.Walked.{Walked}
-use Rattle.job.specs.Placed.{Job, refused, accepted, placed, placedFrom, allRows}
-use Rattle.job.specs.Answers.{Answer, rowsAnswer, walkedAnswer, sizeFrom, sizeOf}
+use Rattle.job.specs.Placed.{Job, refused, accepted, placed}
+use Rattle.job.specs.Answers.{rowsAnswer, walkedAnswer, sizeFrom, sizeOf}
 use Rattle.job.specs.Walking.{Final, firstPlace, walkFrom, WalkAsks}
 use Rattle.job.proofs.Operands.{zeros}
-use Rattle.job.proofs.Simulation.{Matches, Going, simulates}
+use Rattle.job.proofs.Simulation.{Matches, simulates}
 
 -- the table with no joint
 abbrev pub noJoints : List ℕ

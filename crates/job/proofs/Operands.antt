@@ -1,7 +1,6 @@
 -- The inner loop over plain values: the operands read so far are those of the specification and in range. Assumes nothing.
 use mathlib.Core.Path.{_≡_, refl, sym, ap, _∙_, subst, fun-ext}
-use mathlib.Core.Bool.{Bool, true, false}
-use mathlib.Core.Logic.{_⊎_, inl, inr}
+use mathlib.Core.Bool.{true, false}
 use mathlib.Core.List.{List, [], _∷_}
 use Prim.Native.Nat.{ℕ, zero, suc, _+_, _-_, _^_, _≤_, _<_}
 use native.Mathlib.Omega.{arith}
@@ -14,7 +13,7 @@ use Rattle.format.specs.declared.Form.the-variants.{Id}
 use Rattle.format.specs.Number.{number}
 use Rattle.format.specs.Forms.{width, formInRange}
 use Rattle.format.specs.Layouts.{formsOf, formsIn, operandsWidth}
-use Rattle.format.specs.Commands.{Command, commandOf, inRange, related}
+use Rattle.format.specs.Commands.{commandOf, inRange, related}
 use Rattle.format.specs.Reading.{readOperands}
 use Rattle.format.proofs.Numbers.{Bytes, bytes-drop}
 use Rattle.format.proofs.KnownBytes.{each-byte, forms-above}

@@ -1,34 +1,31 @@
 -- The walk of the code is the placed commands of the specification: the same answer, and the rows of all placed commands in
 -- memory. Assumes nothing.
-use mathlib.Core.Path.{_≡_, refl, sym, ap, ap₂, _∙_, subst}
-use mathlib.Core.Bool.{Bool, true, false, not, _&&_, cond}
-use mathlib.Core.List.{List, [], _∷_, _++_, map}
+use mathlib.Core.Path.{_≡_, refl, sym, ap, _∙_, subst}
+use mathlib.Core.Bool.{Bool, true, false, not, cond}
+use mathlib.Core.List.{List, [], _∷_, _++_}
 use Prim.Native.Nat.{ℕ, zero, suc, _+_, _-_, _≤_, _<_}
 use native.Mathlib.Omega.{arith}
 use native.Mathlib.Decide.{decLe, ℕ-discrete}
-use native.Mathlib.Nat.{add-zero, add-assoc}
-use native.Mathlib.Numerals.{add-one}
-use lib.Dec.{eqb, leb, ltb, lit<}
+use native.Mathlib.Nat.{add-zero}
+use lib.Dec.{ltb, lit<}
 use lib.IntN.{ℤ}
-use lib.ListN.{length, getD, length-append, length-map}
-use borrow.Author.Tests.{le-leb, lt-leb, lt-ltb, le-ltb, eq-eqb, ne-eqb, leb-true, leb-false, ltb-true, ltb-false, eqb-true, eqb-false, not-true, not-false}
+use lib.ListN.{length, length-append}
+use borrow.Author.Tests.{ltb-false}
 use Rattle.format.specs.Layouts.{known, formsOf, formsIn}
 use Rattle.format.specs.Forms.{width}
-use Rattle.format.specs.Commands.{Command, finish, settings, joint, column, beam, hingeless, wallBase, storey, soil, footing, detail, commandOf, byteOf, inRange}
+use Rattle.format.specs.Commands.{settings, commandOf, inRange}
 use Rattle.format.specs.Reading.{byteAt, operandsAt, commandAt}
 use Rattle.format.proofs.Numbers.{Bytes}
 use Rattle.format.proofs.KnownBytes.{each-byte, command-above, known-most}
 use Rattle.format.proofs.RoundTrip.{byte-back, Fit, at}
 use Rattle.format.proofs.OperandsRead.{operands-fit}
 use Rattle.held.specs.Held.{Held, given, next, absent, repeated}
-use Rattle.held.specs.Rows.{rowsOf, words}
-use Rattle.held.specs.Running.{nextState, nextJoints, absentIn, repeatedIn, rowsFrom, stored, storedAll}
+use Rattle.held.specs.Running.{nextJoints, storedAll}
 use Rattle.held.proofs.Laws.{storedAll-append}
 use Rattle.held.proofs.Shown.{Shows, IdsFit, InPlace, settings-given, absent-same, repeated-same, shows-next, rows-same}
 use Rattle.job.specs.declared.Place.{Place}
-use Rattle.job.specs.declared.Walked.{Walked}
-use Rattle.job.specs.declared.Walked.the-variants.{Refused, Finished, Paused}
-use Rattle.job.specs.Faults.{unknown, cutShort, tooMany, misplaced, outOfRange, afterCommand, firstOf, faultAt}
+use Rattle.job.specs.declared.Walked.the-variants.{Refused, Finished}
+use Rattle.job.specs.Faults.{tooMany, misplaced, afterCommand, firstOf, faultAt}
 use Rattle.job.specs.Placed.{Placed, Job, refused, accepted, before, placedFrom, rowsAt, allRows}
 use Rattle.job.specs.Walking.{faultFrom, Final, rowsHere, nextPlace, outcome, walkFrom}
 use Rattle.job.proofs.PlacedCases.{placed-none, placed-fault, placed-more, placed-end, placed-goes}

@@ -1,6 +1,5 @@
 -- The invariant of the walk: the whole walk is what is left of it, with a sound state and table. Assumes nothing.
-use mathlib.Core.Path.{_≡_, refl, sym, ap, _∙_, subst}
-use mathlib.Core.Bool.{Bool, true, false}
+use mathlib.Core.Path.{_≡_, _∙_, subst}
 use mathlib.Core.List.{List, map}
 use Prim.Native.Nat.{ℕ, _+_, _-_, _≤_, _<_}
 use native.Mathlib.Omega.{arith}
@@ -14,7 +13,7 @@ use Rattle.held.proofs.Laws.{next-sound, joints-sound, joints-length, rows-le, 
 use Rattle.held.specs.declared.State.{State}
 use Rattle.job.specs.declared.Place.{Place}
 use Rattle.job.specs.Faults.{afterCommand}
-use Rattle.job.specs.Walking.{Final, faultFrom, rowsHere, nextPlace, walkFrom, outcome}
+use Rattle.job.specs.Walking.{Final, faultFrom, rowsHere, nextPlace, walkFrom}
 use Rattle.job.proofs.Steps.{walk-step, goes-on, onward}
 
 pub record Stands (whole : Final) (job joints₀ : List ℕ) (rows₀ : List ℤ) (joints : List ℕ) (rows : List ℤ) (p : Place) (left : ℕ) : Type 0 where

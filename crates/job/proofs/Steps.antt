@@ -1,17 +1,16 @@
 -- One step of the walk over plain values: what stops it, and how it goes on. Assumes nothing.
-use mathlib.Core.Path.{_≡_, refl, sym, ap, _∙_}
-use mathlib.Core.Bool.{Bool, true, false, not, _&&_, cond}
-use mathlib.Core.List.{List, [], _∷_, map}
-use Prim.Native.Nat.{ℕ, zero, suc, _+_, _-_, _≤_, _<_}
+use mathlib.Core.Path.{_≡_, refl, ap}
+use mathlib.Core.Bool.{true, false}
+use mathlib.Core.List.{List}
+use Prim.Native.Nat.{ℕ, suc, _+_, _-_, _≤_, _<_}
 use native.Mathlib.Omega.{arith}
-use lib.Dec.{eqb, leb, ltb}
 use lib.IntN.{ℤ}
-use lib.ListN.{length, getD}
-use borrow.Author.Tests.{le-leb, lt-leb, lt-ltb, le-ltb, eq-eqb, ne-eqb, leb-false}
-use Rattle.format.specs.Layouts.{known, operandsWidth}
-use Rattle.format.specs.Commands.{Command, inRange}
+use lib.ListN.{length}
+use borrow.Author.Tests.{le-leb, lt-leb, lt-ltb, le-ltb, ne-eqb, leb-false}
+use Rattle.format.specs.Layouts.{known}
+use Rattle.format.specs.Commands.{inRange}
 use Rattle.format.specs.Reading.{byteAt, commandAt}
-use Rattle.held.specs.Running.{nextState, nextJoints, absentIn, repeatedIn, storedAll, SoundState, SoundJoints}
+use Rattle.held.specs.Running.{nextJoints, absentIn, repeatedIn, storedAll}
 use Rattle.job.specs.declared.Place.{Place}
 use Rattle.job.specs.declared.Walked.{Walked}
 use Rattle.job.specs.declared.Walked.the-variants.{Refused, Finished, Paused}

@@ -1,5 +1,5 @@
 -- The fault of a command, tried in 01's order: "The walk stops at the first command at fault, trying 2, 1, 8, 4, 5, 6, 7".
-use mathlib.Core.Bool.{Bool, true, false, not, _&&_, cond}
+use mathlib.Core.Bool.{Bool, not, _&&_, cond}
 use mathlib.Core.List.{List, [], _∷_}
 use Prim.Native.Nat.{ℕ, _+_}
 use lib.Dec.{eqb, leb, ltb}

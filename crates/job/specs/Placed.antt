@@ -1,12 +1,11 @@
 -- The placed commands of a job, from its bytes alone: each command with its offset and what holds at it, or the refusal.
 -- Rows and exact values are both made from this list. 01, "Who can make a job fail".
-use mathlib.Core.Bool.{Bool, true, false, cond}
+use mathlib.Core.Bool.{cond}
 use mathlib.Core.List.{List, [], _∷_, _++_, map}
 use Prim.Native.Nat.{ℕ, zero, suc, _+_}
 use lib.Dec.{eqb, leb, ltb}
 use lib.IntN.{ℤ}
 use lib.ListN.{length}
-use Rattle.claims.specs.declared.Row.{Row}
 use Rattle.format.specs.Commands.{Command, byteOf}
 use Rattle.format.specs.Reading.{byteAt, commandAt}
 use Rattle.held.specs.Held.{Held, nothing, next}

@@ -1,5 +1,4 @@
 -- The walk in the shape of the code. proofs/ joins it to the placed commands.
-use mathlib.Core.Path.{_≡_}
 use mathlib.Core.Bool.{cond}
 use mathlib.Core.List.{List, [], _∷_, map}
 use Prim.Native.Nat.{ℕ, zero, suc, _+_, _≤_}
@@ -7,7 +6,6 @@ use lib.Dec.{eqb, leb, ltb}
 use lib.IntN.{ℤ}
 use lib.ListN.{length}
 use Rattle.format.specs.Reading.{byteAt, commandAt}
-use Rattle.held.specs.declared.State.{State}
 use Rattle.held.specs.Running.{startState, nextState, nextJoints, absentIn, repeatedIn, rowsFrom, storedAll, SoundState, SoundJoints}
 use Rattle.held.specs.Rows.{words}
 use Rattle.job.specs.Faults.{unknown, afterCommand, cutShort, tooMany, misplaced, outOfRange, firstOf}

@@ -1,9 +1,8 @@
 -- The steps of `magnitude` over plain integers: a number of 32 bits fits 64, and less its sign it fits 32. Assumes nothing.
-use mathlib.Core.Path.{_≡_, refl, subst}
-use mathlib.Core.Bool.{Bool, true, false}
-use Prim.Native.Nat.{ℕ, zero, suc, _+_, _^_, _<_, _≤_}
+use mathlib.Core.Path.{_≡_, subst}
+use mathlib.Core.Bool.{true, false}
+use Prim.Native.Nat.{ℕ, _<_}
 use native.Mathlib.Omega.{arith}
-use native.Mathlib.Nat.{zero-add}
 use lib.Dec.{T}
 use lib.IntN.{ℤ, pos, negsuc, _-ℤ_, natAbs}
 use lib.Signed.{ltZ, nonNeg}

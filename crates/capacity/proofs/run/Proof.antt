@@ -1,18 +1,13 @@
 -- `capacity::run` meets its contract, in each of its three cases (Runs.antt), with demand 3 of the words written (Whole.antt).
 -- Assumes nothing.
-use mathlib.Core.Path.{_≡_, refl, sym, ap, _∙_, subst}
+use mathlib.Core.Path.{_≡_, sym, ap, _∙_, subst}
 use mathlib.Core.Bool.{true, false}
-use mathlib.Core.List.{List}
-use Prim.Native.Nat.{ℕ, _/_, _≤_}
+use Prim.Native.Nat.{ℕ}
 use native.Mathlib.Omega.{arith}
-use lib.IntN.{ℤ}
-use lib.ListN.{length}
 use borrow.Author.Needs.{needs}
-use Rattle.format.proofs.Numbers.{Bytes}
-use Rattle.job.specs.Answers.{rowsAnswer, refusedAnswer, rowCountAnswer, sizeOf}
-use Rattle.capacity.specs.Calls.{tooShortAnswer}
+use Rattle.job.specs.Answers.{rowCountAnswer}
 use Rattle.capacity.specs.DemandThree.{DemandThree}
-use Rattle.capacity.proofs.Runs.{Accepted, refused-run, accepted-run, short-run, enough, full-run}
+use Rattle.capacity.proofs.Runs.{refused-run, accepted-run, short-run, enough, full-run}
 use Rattle.capacity.proofs.Whole.{demand-three}
 use Rattle.capacity.proofs.run.Statement.{statement}
 use Rattle.capacity.proofs.run.Tie as tie

@@ -1,5 +1,5 @@
 -- `capacity::write` meets its contract: the walk from the start writes the rows (Written.antt). Assumes nothing.
-use mathlib.Core.Path.{_≡_, sym, ap, _∙_, subst}
+use mathlib.Core.Path.{sym, ap, _∙_, subst}
 use borrow.Author.Needs.{needs}
 use Rattle.job.specs.declared.Place.{Place}
 use Rattle.job.specs.Walking.{Final, walkFrom, WalkAsks}

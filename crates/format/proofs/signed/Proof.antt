@@ -1,5 +1,5 @@
 -- `format::signed` meets its contract: below 2³¹ the bits as they are, from there on less 2³². Assumes nothing.
-use Prim.Native.Nat.{_≤_, _<_}
+use Prim.Native.Nat.{_<_}
 use native.Mathlib.Omega.{arith}
 use borrow.Author.Needs.{needs}
 use lib.IntN.{pos, _-ℤ_}

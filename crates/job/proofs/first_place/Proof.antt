@@ -1,5 +1,5 @@
 -- `job::first_place` meets its contract. Assumes nothing.
-use mathlib.Core.Path.{_≡_, ap}
+use mathlib.Core.Path.{ap}
 use Rattle.held.specs.declared.State.{State}
 use Rattle.job.specs.declared.Place.{Place}
 use Rattle.job.specs.Walking.{firstPlace}

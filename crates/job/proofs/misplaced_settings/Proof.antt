@@ -1,6 +1,5 @@
 -- `job::misplaced_settings` meets its contract: the tests are those of the definition. Assumes nothing.
-use borrow.Author.Tests.{ne-eqb}
-use Rattle.job.specs.Faults.{tooMany, misplaced}
+use Rattle.job.specs.Faults.{misplaced}
 use Rattle.job.proofs.misplaced_settings.Statement.{statement}
 use Rattle.job.proofs.misplaced_settings.Tie as tie
 

@@ -1,6 +1,6 @@
 -- `job::too_many` meets its contract: the tests are those of the definition. Assumes nothing.
 use borrow.Author.Tests.{ne-eqb}
-use Rattle.job.specs.Faults.{tooMany, misplaced}
+use Rattle.job.specs.Faults.{tooMany}
 use Rattle.job.proofs.too_many.Statement.{statement}
 use Rattle.job.proofs.too_many.Tie as tie
 

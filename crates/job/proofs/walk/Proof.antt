@@ -2,14 +2,13 @@
 -- loop's: the operands read so far are those of the specification, and in range (Operands.antt). Each way out is a step of
 -- Steps.antt. Assumes nothing.
 use mathlib.Core.Path.{_≡_, refl, sym, ap, _∙_, subst}
-use mathlib.Core.Bool.{Bool, true, false, not}
-use Prim.Native.Nat.{ℕ, zero, suc, _+_, _-_, _≤_, _<_}
+use mathlib.Core.Bool.{true, false}
+use Prim.Native.Nat.{ℕ, suc, _+_, _-_, _≤_, _<_}
 use native.Mathlib.Omega.{arith}
 use mathlib.Core.List.{List, map}
 use lib.ListN.{length, getD, set, take, drop, replicate, length-map}
-use borrow.Author.Needs.{needs}
 use borrow.Author.Tests.{not-true, not-false}
-use Rattle.format.specs.Layouts.{known, formsOf, operandsWidth}
+use Rattle.format.specs.Layouts.{known, formsOf}
 use Rattle.format.specs.declared.Form.{Form}
 use Rattle.format.specs.declared.Form.the-variants.{Id}
 use Rattle.format.specs.Number.{number}
@@ -23,10 +22,10 @@ use Rattle.format.proofs.OperandsRead.{width-is as form-width-is}
 use Rattle.held.proofs.Laws.{next-sound, joints-sound}
 use Rattle.job.specs.declared.Place.{Place}
 use Rattle.job.specs.declared.Walked.{Walked}
-use Rattle.job.specs.declared.Walked.the-variants.{Refused, Finished, Paused}
+use Rattle.job.specs.declared.Walked.the-variants.{Refused, Finished}
 use Rattle.job.specs.Faults.{tooMany, misplaced, afterCommand}
 use Rattle.job.specs.Walking.{faultFrom, outcome, rowsHere, walkFrom, Final}
-use Rattle.job.proofs.Steps.{count-below, walk-none, walk-step, no-end, faulty, more-bytes, finished, goes-on, onward, fault2, fault1, fault8, fault4, fault5, fault6, fault7, fault0}
+use Rattle.job.proofs.Steps.{count-below, walk-none, walk-step, no-end, faulty, more-bytes, finished, onward, fault2, fault1, fault8, fault4, fault5, fault6, fault7, fault0}
 use Rattle.job.proofs.Operands.{Reading, zeros, begins, next-fits, next-place, out-of-range, reads-on, command-is, all-ranged, checked, after-is}
 use Rattle.job.proofs.Stands.{Stands, further, rows-moved, moved}
 use Rattle.job.proofs.walk.Statement.{statement}

@@ -1,5 +1,4 @@
 -- `quantity::between` meets its contract: the two tests are those of `within`. Assumes nothing.
-use mathlib.Core.Path.{sym}
 use borrow.Author.Tests.{le-leb, lt-leb}
 use Rattle.quantity.specs.Range.{within}
 use Rattle.quantity.proofs.between.Statement.{statement}
