@@ -1,6 +1,8 @@
--- Demand 3 for a whole job.
+-- Demand 3 for a whole job; what `run` gives twice and on a longer slice; its verdicts at their bounds.
 mod Ranges
 mod RowsTrue
 mod Whole
 mod Written
 mod Runs
+pub mod SameWords
+pub mod Edges

@@ -1,0 +1,167 @@
+// The calls for programs in other languages: include/eak_capacity.h declares them. None has a `requires`, and each contract is
+// that of the same call in `capacity`, its answer as a struct. 01, "Calls".
+use capacity::Ran;
+use job::RowCount;
+use soil::TakeDown;
+use totals::Totals;
+ghost use mathlib.Core.Path.{_≡_};
+ghost use mathlib.Core.Bool.{true};
+ghost use lib.ListN.{length};
+ghost use Rattle.soil.specs.Answers.{answerOf};
+ghost use Rattle.soil.specs.Taken.{takeDown};
+ghost use Rattle.totals.specs.Answers.{totalAnswer};
+ghost use Rattle.totals.specs.Total.{totalOf};
+ghost use Rattle.job.specs.Answers.{rowCountAnswer, sizeOf};
+ghost use Rattle.capacity.specs.Calls.{runAnswer, runOf, rowsAfter};
+ghost use Rattle.capacity.specs.DemandThree.{DemandThree};
+ghost use Rattle.capacity_c.specs.Exported.{jobAnswer, totalsAnswer, soilAnswer};
+
+// The answer of size and of run.
+#[repr(C)]
+pub struct JobAnswer {
+    pub accepted: bool,
+    pub number: u32,
+    pub offset: usize,
+    pub rows: usize,
+}
+
+// The answer of total.
+#[repr(C)]
+pub struct TotalsAnswer {
+    pub number: u32,
+    pub offset: usize,
+    pub rows: usize,
+    pub failed: u64,
+    pub checks: u64,
+}
+
+// The answer of take-down.
+#[repr(C)]
+pub struct SoilAnswer {
+    pub number: u32,
+    pub offset: u32,
+    pub value: u32,
+}
+
+fn counted(answer: RowCount) -> JobAnswer
+    ensures { λ r. ⌜ r ≡ jobAnswer (rowCountAnswer answer) ⌝ }
+{
+    match answer {
+        RowCount::Rows(rows) => JobAnswer {
+            accepted: true,
+            number: 0,
+            offset: 0,
+            rows,
+        },
+        RowCount::Refused(number, offset) => JobAnswer {
+            accepted: false,
+            number,
+            offset,
+            rows: 0,
+        },
+    }
+}
+
+fn ran(answer: Ran) -> JobAnswer
+    ensures { λ r. ⌜ r ≡ jobAnswer (runAnswer answer) ⌝ }
+{
+    match answer {
+        Ran::Rows(rows) => JobAnswer {
+            accepted: true,
+            number: 0,
+            offset: 0,
+            rows,
+        },
+        Ran::Refused(number, offset) => JobAnswer {
+            accepted: false,
+            number,
+            offset,
+            rows: 0,
+        },
+        Ran::TooShort(rows) => JobAnswer {
+            accepted: false,
+            number: 9,
+            offset: 0,
+            rows,
+        },
+    }
+}
+
+fn totalled(answer: Totals) -> TotalsAnswer
+    ensures { λ r. ⌜ r ≡ totalsAnswer (totalAnswer answer) ⌝ }
+{
+    match answer {
+        Totals::Counted { failed, checks } => TotalsAnswer {
+            number: 0,
+            offset: 0,
+            rows: 0,
+            failed,
+            checks,
+        },
+        Totals::TooShort(rows) => TotalsAnswer {
+            number: 9,
+            offset: 0,
+            rows,
+            failed: 0,
+            checks: 0,
+        },
+        Totals::BadVerdict(offset) => TotalsAnswer {
+            number: 5,
+            offset,
+            rows: 0,
+            failed: 0,
+            checks: 0,
+        },
+    }
+}
+
+fn taken(answer: TakeDown) -> SoilAnswer
+    ensures { λ r. ⌜ r ≡ soilAnswer (answerOf answer) ⌝ }
+{
+    match answer {
+        TakeDown::Value(value) => SoilAnswer {
+            number: 0,
+            offset: 0,
+            value,
+        },
+        TakeDown::OutOfRange => SoilAnswer {
+            number: 5,
+            offset: 0,
+            value: 0,
+        },
+    }
+}
+
+// A job's row count, or its refusal.
+#[no_mangle]
+pub extern "C" fn eak_size(job: &[u8]) -> JobAnswer
+    ensures { λ r. ⌜ r ≡ jobAnswer (sizeOf (now (job .entry))) ⌝ }
+{
+    counted(capacity::size(job))
+}
+
+// The rows of a job, and their number.
+#[no_mangle]
+pub extern "C" fn eak_run(job: &[u8], rows: &mut [i64]) -> JobAnswer
+    ensures answer { λ r. ⌜ r ≡ jobAnswer (runOf (now (job .entry)) (length (now (rows .entry)))) ⌝ }
+    ensures words { λ r. ⌜ now (rows .exit) ≡ rowsAfter (now (job .entry)) (now (rows .entry)) ⌝ }
+    ensures demand3 { λ r. ⌜ (r .accepted ≡ true → DemandThree (now (job .entry)) (now (rows .exit))) ⌝ }
+{
+    ran(capacity::run(job, rows))
+}
+
+// Rows failed and checks failed of the first n rows.
+#[no_mangle]
+pub extern "C" fn eak_total(rows: &[i64], n: usize) -> TotalsAnswer
+    ensures { λ r. ⌜ r ≡ totalsAnswer (totalOf (now (rows .entry)) n) ⌝ }
+{
+    totalled(capacity::total(rows, n))
+}
+
+// Take-down of one soil value. Any 32 bits may come as the value: a NaN is not at most its limit, so it is refused like the rest.
+#[no_mangle]
+pub extern "C" fn eak_take_down(kind: u8, value: f32) -> SoilAnswer
+    ensures { λ r. ⌜ r ≡ soilAnswer (takeDown kind value) ⌝ }
+{
+    taken(capacity::take_down(kind, value))
+}

@@ -1,0 +1,105 @@
+-- The listing of a job in each of the three answers of `run`, over plain values. Assumes nothing.
+use mathlib.Core.Path.{_≡_, refl, sym, ap, ap₂, _∙_, subst}
+use mathlib.Core.Bool.{Bool, true, false, cond}
+use mathlib.Core.List.{List, _++_}
+use Prim.Native.Nat.{ℕ, _+_, _*_, _≤_, _<_}
+use native.Mathlib.Nat.{lt-irrefl}
+use native.Mathlib.Omega.{arith}
+use borrow.Author.Tests.{le-leb, lt-leb, leb-true, leb-false, le-ltb, lt-ltb}
+use lib.Dec.{leb, ltb}
+use lib.IntN.{ℤ}
+use lib.ListN.{length, drop, length-append, length-drop}
+use Rattle.text.specs.Lines.{refusedLine}
+use Rattle.text.specs.Written.{WritesAtMost}
+use Rattle.held.specs.Running.{joined}
+use Rattle.job.specs.Placed.{Placed, Job, refused, accepted, placed, allRows}
+use Rattle.job.specs.Answers.{Answer, rowsAnswer, refusedAnswer}
+use Rattle.capacity.specs.Calls.{tooShortAnswer, runFrom, runOf, rowsFrom, rowsAfter}
+use Rattle.report.specs.Listing.{mostBytes, mostRows, rowsListing, acceptedListing, jobListing, listingOf}
+use Rattle.report.proofs.FirstRows.{first-rows}
+
+differ : true ≡ false → ⊥
+differ e = let z : _≡_ {A = ℕ} 0 1 = cc in omega arith
+
+-- the words of the slice that is lent to `run`
+abbrev pub lent : ℕ
+lent = 8 * mostRows
+
+-- by the room for an accepted job's rows
+module _ (ps : List Placed) (P : Answer → Type 0) where
+  by-room : (leb (8 * length (allRows ps)) lent ≡ true → P (rowsAnswer (length (allRows ps)))) →
+      (leb (8 * length (allRows ps)) lent ≡ false → P (tooShortAnswer (length (allRows ps)))) → P (runFrom (accepted ps) lent)
+  by-room room none = go (leb (8 * length (allRows ps)) lent) refl
+    where
+      go : (b : Bool) → leb (8 * length (allRows ps)) lent ≡ b → P (cond b (rowsAnswer (length (allRows ps))) (tooShortAnswer (length (allRows ps))))
+      go true e = room e
+      go false e = none e
+
+-- ---- refused
+
+refused-from : (number offset : ℕ) (j : Job) → refusedAnswer number offset ≡ runFrom j lent → jobListing j ≡ refusedLine number offset
+refused-from number offset (refused n o) e = sym (ap₂ refusedLine (ap (λ (a : Answer). a .number) e) (ap (λ (a : Answer). a .offset) e))
+refused-from number offset (accepted ps) e =
+    by-room ps (λ a. refusedAnswer number offset ≡ a → acceptedListing (allRows ps) ≡ refusedLine number offset)
+    (λ y q. absurd (differ (sym (ap (λ (a : Answer). a .accepted) q))))
+    (λ y q. absurd (lt-irrefl 0 (omega (arith, leb-false (8 * length (allRows ps)) lent y, ap (λ (a : Answer). a .rows) q)))) e
+
+pub refused-listing : (job : List ℕ) (number offset : ℕ) → refusedAnswer number offset ≡ runOf job lent → jobListing (placed job) ≡ refusedLine number offset
+unfolding runOf
+refused-listing job number offset e = refused-from number offset (placed job) e
+
+-- ---- too many rows
+
+short-from : (n : ℕ) (j : Job) → tooShortAnswer n ≡ runFrom j lent → jobListing j ≡ refusedLine 9 n
+short-from n (refused number offset) e =
+    ap₂ refusedLine (sym (ap (λ (a : Answer). a .number) e)) (sym (ap (λ (a : Answer). a .offset) e) ∙ sym (ap (λ (a : Answer). a .rows) e))
+short-from n (accepted ps) e =
+    by-room ps (λ a. tooShortAnswer n ≡ a → acceptedListing (allRows ps) ≡ refusedLine 9 n)
+    (λ y q. absurd (differ (sym (ap (λ (a : Answer). a .accepted) q))))
+    (λ y q.
+    let l = lt-leb (length (allRows ps)) mostRows (omega (arith, leb-false (8 * length (allRows ps)) lent y)) in
+    rw l (ap (refusedLine 9) (sym (ap (λ (a : Answer). a .rows) q)))) e
+
+pub short-listing : (job : List ℕ) (n : ℕ) → tooShortAnswer n ≡ runOf job lent → jobListing (placed job) ≡ refusedLine 9 n
+unfolding runOf
+short-listing job n e = short-from n (placed job) e
+
+-- ---- rows
+
+-- the rows are few enough, and their listing is that of the words that `run` left
+pub record Listed (j : Job) (n : ℕ) (words : List ℤ) : Type 0 where
+  pub few : n ≤ mostRows
+  pub listing : jobListing j ≡ rowsListing words n
+
+rows-from : (n : ℕ) (m : List ℤ) → length m ≡ lent → (j : Job) → length (rowsFrom j m) ≡ lent → rowsAnswer n ≡ runFrom j lent → Listed j n (rowsFrom j m)
+rows-from n m k (refused number offset) kept e = absurd (differ (ap (λ (a : Answer). a .accepted) e))
+rows-from n m k (accepted ps) kept e =
+    by-room ps (λ a. rowsAnswer n ≡ a → Listed (accepted ps) n (rowsFrom (accepted ps) m))
+    (λ y q.
+    let rows = allRows ps in
+    let c : n ≡ length rows = ap (λ (a : Answer). a .rows) q in
+    let fit : 8 * length rows ≤ lent = leb-true (8 * length rows) lent y in
+    let room : leb (8 * length rows) (length m) ≡ true = rw k y in
+    let l = le-leb (length rows) mostRows (omega arith) in
+    let same = first-rows (joined rows) (drop (8 * length rows) m) (length rows) (omega (arith, simp (length-append, length-drop) at (rw room at kept))) in
+    record { few = omega arith; listing = rw (l, room, c) (sym same) })
+    (λ y q. absurd (differ (ap (λ (a : Answer). a .accepted) q))) e
+
+pub rows-listing : (job : List ℕ) (n : ℕ) (m : List ℤ) → length m ≡ lent → length (rowsAfter job m) ≡ lent → rowsAnswer n ≡ runOf job lent → Listed (placed job) n (rowsAfter job m)
+unfolding runOf rowsAfter
+rows-listing job n m k kept e = rows-from n m k (placed job) kept e
+
+-- ---- the room of a line and of a listing
+
+pub at-most : {most : ℕ} {before : List ℕ} {text after : List ℕ} {next : ℕ} → WritesAtMost most before 0 text after next → most ≤ 172114 → WritesAtMost 172114 before 0 text after next
+at-most w h = record { writes = w .writes; short = omega (arith, w .short) }
+
+-- ---- the bytes of the job
+
+pub long-listing : (job : List ℕ) → mostBytes < length job → listingOf job ≡ refusedLine 10 0
+unfolding listingOf
+long-listing job h = ap (λ (b : Bool). cond b (refusedLine 10 0) (jobListing (placed job))) (lt-ltb mostBytes (length job) h)
+
+pub whole-listing : (job : List ℕ) → length job ≤ mostBytes → listingOf job ≡ jobListing (placed job)
+unfolding listingOf
+whole-listing job h = ap (λ (b : Bool). cond b (refusedLine 10 0) (jobListing (placed job))) (le-ltb mostBytes (length job) h)

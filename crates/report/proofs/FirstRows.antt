@@ -1,0 +1,27 @@
+-- The listing of n rows depends on the first 8·n words alone. Assumes nothing.
+use mathlib.Core.Path.{_≡_, refl, ap, ap₂}
+use mathlib.Core.List.{List, _++_}
+use Prim.Native.Nat.{ℕ, zero, suc, _+_, _*_, _≤_}
+use native.Mathlib.Omega.{arith}
+use lib.IntN.{ℤ}
+use lib.ListN.{length, take, drop, length-drop}
+use lib.Seq.{take-append-le, drop-append-le}
+use Rattle.text.specs.Lines.{rowLine, rowWords, rowsText, listingText}
+use Rattle.totals.specs.Total.{totalOf}
+use Rattle.totals.proofs.Laws.{same-first-words}
+use Rattle.report.specs.Listing.{rowsListing}
+
+module _ (a b : List ℤ) where
+  row-words : (n : ℕ) → 8 * n + 8 ≤ length a → rowWords (a ++ b) n ≡ rowWords a n
+  row-words n h =
+      let k : 8 * n ≤ length a = omega arith in
+      rw (drop-append-le (8 * n) a b k) (take-append-le 8 (drop (8 * n) a) b (simp length-drop (omega arith)))
+
+  rows-text : (n : ℕ) → 8 * n ≤ length a → rowsText (a ++ b) n ≡ rowsText a n
+  unfolding rowsText
+  rows-text zero h = refl
+  rows-text (suc n) h = ap₂ (λ (s t : List ℕ). s ++ t) (rows-text n (omega arith)) (ap rowLine (row-words n (omega arith)))
+
+  pub first-rows : (n : ℕ) → 8 * n ≤ length a → rowsListing (a ++ b) n ≡ rowsListing a n
+  unfolding rowsListing listingText
+  first-rows n h = rw (same-first-words (a ++ b) a n (take-append-le (8 * n) a b h), rows-text n h)

@@ -1,0 +1,3 @@
+-- What the proofs of this crate cite. Assumes nothing.
+pub mod FirstRows
+pub mod Answers

@@ -1,0 +1,2 @@
+-- The listing of a job, as bytes. Assumes nothing.
+pub mod Listing

@@ -1,0 +1,191 @@
+//! Times the proved library against the reference, both built for release, on the same jobs in one process with warm buffers.
+//! Argument: rounds, of which the best counts. Prints tables in markdown: ns a command (a row, a value) of both, and the ratio.
+//! Assumes nothing. Built like tests/compare.rs, as tests/run says.
+
+#![allow(dead_code)]
+
+mod generate;
+mod library;
+mod reference;
+
+use generate::{Mix, Random};
+use std::hint::black_box;
+use std::time::Instant;
+
+const COMMANDS: [usize; 4] = [10, 100, 1000, 4096];
+
+const KINDS: [(&str, Mix); 8] = [
+    ("column", Mix([0, 1, 0, 0, 0, 0, 0, 0, 0])),
+    ("beam", Mix([0, 0, 1, 0, 0, 0, 0, 0, 0])),
+    ("no hinges", Mix([1, 0, 0, 9, 0, 0, 0, 0, 0])),
+    ("wall base", Mix([0, 0, 0, 0, 1, 0, 0, 0, 0])),
+    ("storey", Mix([0, 0, 0, 0, 0, 1, 0, 0, 0])),
+    ("footing", Mix([0, 0, 0, 0, 0, 0, 0, 1, 0])),
+    ("detail", Mix([0, 0, 0, 0, 0, 0, 0, 0, 1])),
+    ("even mix", Mix::EVEN),
+];
+
+fn main() {
+    let rounds = std::env::args()
+        .nth(1)
+        .map_or(40, |text| text.parse().expect("a number"));
+    for (call, both) in [("run", run as Both), ("size", size), ("total", total)] {
+        let unit = if call == "total" { "row" } else { "command" };
+        println!("\n| {call}, ns a {unit} | commands | library | reference | ratio |\n|---|---:|---:|---:|---:|");
+        for (kind, mix) in KINDS {
+            for commands in COMMANDS {
+                let jobs = Jobs::new(commands, &mix);
+                print(kind, &commands.to_string(), both(rounds, &jobs));
+            }
+        }
+    }
+    println!("\n| take-down, ns a value | values | library | reference | ratio |\n|---|---:|---:|---:|---:|");
+    for (kind, name) in ["tangent", "strength"].into_iter().enumerate() {
+        print(name, "4096", take_down(rounds, kind as u8));
+    }
+}
+
+fn print(name: &str, count: &str, [library, reference]: [f64; 2]) {
+    println!(
+        "| {name} | {count} | {library:.2} | {reference:.2} | {:.2} |",
+        library / reference
+    );
+}
+
+/// Some jobs of a kind and the rows of the longest; about 4,096 commands together.
+struct Jobs {
+    jobs: Vec<Vec<u8>>,
+    commands: usize,
+    rows: Vec<i64>,
+}
+
+impl Jobs {
+    fn new(commands: usize, mix: &Mix) -> Jobs {
+        let mut random = Random::new(1);
+        let count = (4096 / commands).max(1);
+        let jobs: Vec<Vec<u8>> = (0..count)
+            .map(|_| generate::valid(&mut random, commands, mix))
+            .collect();
+        Jobs {
+            jobs,
+            commands: count * commands,
+            rows: vec![0; 2 * 4096 * reference::ROW],
+        }
+    }
+}
+
+/// Times both implementations: ns a unit.
+type Both = fn(usize, &Jobs) -> [f64; 2];
+
+fn run(rounds: usize, jobs: &Jobs) -> [f64; 2] {
+    let mut rows = jobs.rows.clone();
+    let mut other = jobs.rows.clone();
+    race(
+        rounds,
+        jobs.commands,
+        || {
+            jobs.jobs
+                .iter()
+                .for_each(|job| keep(library::run(black_box(job), &mut rows)))
+        },
+        || {
+            jobs.jobs
+                .iter()
+                .for_each(|job| keep(reference::run(black_box(job), &mut other)))
+        },
+    )
+}
+
+fn size(rounds: usize, jobs: &Jobs) -> [f64; 2] {
+    race(
+        rounds,
+        jobs.commands,
+        || {
+            jobs.jobs
+                .iter()
+                .for_each(|job| keep(library::size(black_box(job))))
+        },
+        || {
+            jobs.jobs
+                .iter()
+                .for_each(|job| keep(reference::size(black_box(job))))
+        },
+    )
+}
+
+/// Of the rows of each job.
+fn total(rounds: usize, jobs: &Jobs) -> [f64; 2] {
+    let lists: Vec<(Vec<i64>, usize)> = jobs
+        .jobs
+        .iter()
+        .map(|job| {
+            let mut rows = jobs.rows.clone();
+            let count = reference::run(job, &mut rows).expect("an accepted job");
+            rows.truncate(count * reference::ROW);
+            (rows, count)
+        })
+        .collect();
+    race(
+        rounds,
+        lists.iter().map(|(_, count)| count).sum(),
+        || {
+            lists
+                .iter()
+                .for_each(|(rows, n)| keep(library::total(black_box(rows), *n)))
+        },
+        || {
+            lists
+                .iter()
+                .for_each(|(rows, n)| keep(reference::total(black_box(rows), *n)))
+        },
+    )
+}
+
+fn take_down(rounds: usize, kind: u8) -> [f64; 2] {
+    let mut random = Random::new(1);
+    let top = [2.0f32, 1000.0][usize::from(kind)];
+    let values: Vec<f32> = (0..4096)
+        .map(|_| random.below(1 << 24) as f32 / (1 << 24) as f32 * top)
+        .collect();
+    race(
+        rounds,
+        values.len(),
+        || {
+            values
+                .iter()
+                .for_each(|&value| keep(library::take_down(kind, black_box(value))))
+        },
+        || {
+            values
+                .iter()
+                .for_each(|&value| keep(reference::take_down(kind, black_box(value))))
+        },
+    )
+}
+
+/// Lets no result be left out.
+fn keep<T>(result: T) {
+    black_box(result);
+}
+
+/// The best time of each, in turn, by units.
+fn race(
+    rounds: usize,
+    units: usize,
+    mut library: impl FnMut(),
+    mut reference: impl FnMut(),
+) -> [f64; 2] {
+    let mut best = [f64::INFINITY; 2];
+    for _ in 0..rounds {
+        best[0] = best[0].min(time(&mut library));
+        best[1] = best[1].min(time(&mut reference));
+    }
+    best.map(|ns| ns / units as f64)
+}
+
+fn time(call: &mut impl FnMut()) -> f64 {
+    call();
+    let start = Instant::now();
+    call();
+    start.elapsed().as_nanos() as f64
+}

@@ -1,0 +1,230 @@
+//! Compares the proved library with the reference on random jobs: size, run, total and take-down, with guard words around the
+//! rows. Arguments: jobs, seed. Prints `N jobs agree`, or the first disagreement with its job in hexadecimal.
+//! Assumes nothing. Built by tests/run.
+
+mod generate;
+mod library;
+mod reference;
+
+use generate::{Mix, Random};
+use reference::{Refusal, ROW};
+
+/// Words before and after the rows that a call is lent.
+const GUARD: usize = 16;
+
+fn main() {
+    let arguments: Vec<u64> = std::env::args()
+        .skip(1)
+        .map(|text| text.parse().expect("a number"))
+        .collect();
+    let argument = |place: usize, usual: u64| arguments.get(place).copied().unwrap_or(usual);
+    let jobs = argument(0, 100_000);
+    let mut random = Random::new(argument(1, 1));
+    let mut tally = Tally::default();
+    for number in 0..jobs {
+        let job = draw(&mut random, number);
+        if let Err(words) = compare(&mut random, &job, &mut tally) {
+            println!("job {number} disagrees: {words}\n{}", hexadecimal(&job));
+            std::process::exit(1);
+        }
+    }
+    eprintln!("{tally}");
+    println!("{jobs} jobs agree");
+}
+
+/// What was met, by outcome of run.
+#[derive(Default)]
+struct Tally {
+    accepted: u64,
+    rows: u64,
+    /// By number, from 1 to 9.
+    refused: [u64; 10],
+}
+
+impl std::fmt::Display for Tally {
+    fn fmt(&self, out: &mut std::fmt::Formatter) -> std::fmt::Result {
+        write!(
+            out,
+            "{} accepted with {} rows; refused",
+            self.accepted, self.rows
+        )?;
+        (1..10).try_for_each(|number| write!(out, " {number}: {}", self.refused[number]))
+    }
+}
+
+fn hexadecimal(job: &[u8]) -> String {
+    job.iter().map(|byte| format!("{byte:02x}")).collect()
+}
+
+// The jobs.
+
+/// One job of each kind in turn; every 200th is of 4,096 commands and every 200th of 4,097.
+fn draw(random: &mut Random, number: u64) -> Vec<u8> {
+    match number % 200 {
+        0 => return longest(random, 4096),
+        100 => return longest(random, 4097),
+        _ => (),
+    }
+    let commands = 1 + random.below(40) as usize;
+    let mut job = generate::valid(random, commands, &Mix([1, 2, 2, 3, 2, 4, 1, 5, 1]));
+    match number % 8 {
+        0 | 1 => (),
+        2 | 3 => generate::at_demand(random, &mut job),
+        4 => job = generate::damaged(random, &job),
+        5 => {
+            generate::at_demand(random, &mut job);
+            job = generate::damaged(random, &job);
+        }
+        6 => job = generate::random_operands(random, commands),
+        _ => {
+            let length = random.below(200) as usize;
+            job = generate::noise(random, length);
+        }
+    }
+    job
+}
+
+/// A job of so many commands, all of one kind or of a mix. The generator stops at 4,096, so one more is repeated before the end.
+fn longest(random: &mut Random, commands: usize) -> Vec<u8> {
+    let mix = match random.below(4) {
+        0 => Mix::EVEN,
+        1 => Mix::only(9),
+        _ => Mix::only(3 + random.below(8) as u8),
+    };
+    let mut job = generate::valid(random, 4096, &mix);
+    job.pop();
+    for _ in 4096..commands {
+        // A detail in range: place 0, no depths, ductility 10.00, no lap.
+        job.extend([0x0A, 0, 0, 0, 0, 0, 0x03, 0xE8, 0]);
+    }
+    job.push(0);
+    job
+}
+
+// The comparison.
+
+/// The first call that disagrees, in words.
+fn compare(random: &mut Random, job: &[u8], tally: &mut Tally) -> Result<(), String> {
+    let size = reference::size(job);
+    same("size", &library::size(job), &size)?;
+    let needed = size.unwrap_or(random.below(12) as usize);
+    let long = ROW * needed + random.below(20) as usize;
+    let short = random.below((ROW * needed).max(1) as u64) as usize;
+    runs(random, job, long, tally)?;
+    runs(random, job, ROW * needed, tally)?;
+    runs(random, job, short, tally)?;
+    if needed > 0 {
+        runs(random, job, ROW * needed - 1, tally)?;
+    }
+    totals(random, job, needed)?;
+    take_down(random)
+}
+
+fn same<T: PartialEq + std::fmt::Debug>(call: &str, found: &T, expected: &T) -> Result<(), String> {
+    if found == expected {
+        Ok(())
+    } else {
+        Err(format!("{call} {found:x?}, reference {expected:x?}"))
+    }
+}
+
+/// Runs a job on so many words that hold random values, with guards before and after them, in both implementations: every
+/// word of the stretch, guards too, must be the same.
+fn runs(random: &mut Random, job: &[u8], words: usize, tally: &mut Tally) -> Result<(), String> {
+    let fill = random.next();
+    let before: Vec<i64> = (0..words + 2 * GUARD)
+        .map(|place| fill.wrapping_mul(2 * place as u64 + 1) as i64)
+        .collect();
+    let [mut found, mut expected] = [before.clone(), before.clone()];
+    let answer = library::run(job, &mut found[GUARD..GUARD + words]);
+    let wanted = reference::run(job, &mut expected[GUARD..GUARD + words]);
+    same("run", &answer, &wanted)?;
+    let written = ROW * answer.unwrap_or(0);
+    if found[..GUARD] != before[..GUARD] || found[GUARD + written..] != before[GUARD + written..] {
+        return Err(format!(
+            "run on {words:x} words changed a word outside the rows"
+        ));
+    }
+    if let Some(place) = (0..found.len()).find(|&place| found[place] != expected[place]) {
+        same(
+            &format!("word {:x}", place - GUARD),
+            &found[place],
+            &expected[place],
+        )?;
+    }
+    match answer {
+        Ok(rows) => {
+            tally.accepted += 1;
+            tally.rows += rows as u64;
+        }
+        Err(Refusal { number, .. }) => tally.refused[usize::from(number)] += 1,
+    }
+    Ok(())
+}
+
+/// Totals of a job's rows, of fewer, of one too many, and of rows with damaged verdicts.
+fn totals(random: &mut Random, job: &[u8], needed: usize) -> Result<(), String> {
+    let mut rows = vec![0; ROW * needed + random.below(8) as usize];
+    let _ = reference::run(job, &mut rows);
+    let fewer = random.below(needed as u64 + 1) as usize;
+    let far = random.next() as usize;
+    for n in [
+        needed,
+        needed + 1,
+        fewer,
+        far,
+        usize::MAX - random.below(9) as usize,
+    ] {
+        same(
+            "total",
+            &library::total(&rows, n),
+            &reference::total(&rows, n),
+        )?;
+    }
+    for _ in 0..random.below(4) {
+        if needed > 0 {
+            let row = random.below(needed as u64) as usize;
+            let values = [-1, 0, 255, 256, i64::MIN, i64::MAX, random.next() as i64];
+            rows[ROW * row + 7] = values[random.below(7) as usize];
+        }
+    }
+    same(
+        "total",
+        &library::total(&rows, needed),
+        &reference::total(&rows, needed),
+    )
+}
+
+/// Take-down of random patterns, of patterns near the ends, and of other kinds.
+fn take_down(random: &mut Random) -> Result<(), String> {
+    let ends = [
+        0,
+        0x4000_0000,
+        0x447A_0000,
+        0x7F80_0000,
+        0x8000_0000,
+        0xFF80_0000,
+        0x3F33_3333,
+        0x0080_0000,
+    ];
+    for _ in 0..4 {
+        let near = ends[random.below(8) as usize] + random.below(9) as u32;
+        let patterns = [
+            random.next() as u32,
+            near.wrapping_sub(4),
+            random.next() as u32 % 0x4500_0000,
+        ];
+        for bits in patterns {
+            for kind in [0, 1, random.next() as u8] {
+                let value = f32::from_bits(bits);
+                let call = format!("take-down of kind {kind:x}, value {bits:08x}");
+                same(
+                    &call,
+                    &library::take_down(kind, value),
+                    &reference::take_down(kind, value),
+                )?;
+            }
+        }
+    }
+    Ok(())
+}

@@ -1,0 +1,362 @@
+//! Pseudo-random jobs of document 01: valid ones, ones with strengths at the demand, damaged ones, noise.
+//! Assumes nothing; the same seed gives the same jobs.
+
+#![allow(dead_code)]
+
+mod values;
+
+use crate::reference::{run, size, ROW};
+use values::Values;
+pub use values::{Random, LIMIT};
+
+/// Bytes of a command, its byte counted, by command byte.
+const WIDTHS: [usize; 11] = [1, 7, 14, 29, 33, 23, 25, 25, 7, 58, 9];
+
+/// How often each of the commands 02 to 0A is drawn.
+#[derive(Clone, Copy)]
+pub struct Mix(pub [u64; 9]);
+
+impl Mix {
+    pub const EVEN: Mix = Mix([1; 9]);
+
+    /// One command, with those that it needs before it.
+    pub fn only(code: u8) -> Mix {
+        let mut weights = [0; 9];
+        weights[usize::from(code) - 2] = 1;
+        Mix(weights)
+    }
+
+    fn draw(&self, random: &mut Random) -> u8 {
+        let mut left = random.below(self.0.iter().sum());
+        let mut code = 2;
+        for weight in self.0 {
+            if left < weight {
+                break;
+            }
+            left -= weight;
+            code += 1;
+        }
+        code
+    }
+}
+
+/// An accepted job with `commands` commands from 1 to 4,096, settings counted, end not.
+/// A command that lacks its joint, wall base or soil is replaced by what it lacks; a joint beyond the last free id
+/// by a member between joints.
+pub fn valid(random: &mut Random, commands: usize, mix: &Mix) -> Vec<u8> {
+    let mut writer = Writer::begin(random);
+    for _ in 1..commands {
+        let code = mix.draw(writer.values.random);
+        writer.command(code);
+    }
+    writer.job.push(0);
+    writer.job
+}
+
+/// A job being written, and what its commands have given.
+struct Writer<'r> {
+    values: Values<'r>,
+    job: Vec<u8>,
+    joints: Vec<u8>,
+    wall: bool,
+    soil: bool,
+}
+
+impl<'r> Writer<'r> {
+    fn begin(random: &'r mut Random) -> Writer<'r> {
+        let values = Values::begin(random);
+        let mut writer = Writer {
+            values,
+            job: vec![1],
+            joints: Vec::new(),
+            wall: false,
+            soil: false,
+        };
+        for factor in [writer.values.q, writer.values.gj, writer.values.gf] {
+            writer.half(factor);
+        }
+        writer
+    }
+
+    fn command(&mut self, wanted: u8) {
+        let code = match wanted {
+            2 if self.joints.len() == 256 => 5,
+            5 if self.joints.is_empty() => 2,
+            7 if !self.wall => 6,
+            9 if !self.soil => 8,
+            _ => wanted,
+        };
+        self.job.push(code);
+        match code {
+            2 => self.joint(),
+            3 => self.column(),
+            4 => self.beam(),
+            5 => self.no_hinges(),
+            6 => self.wall_base(),
+            7 => self.storey(),
+            8 => self.soil(),
+            9 => self.footing(),
+            _ => self.detail(),
+        }
+    }
+
+    fn half(&mut self, value: u64) {
+        self.job.extend((value as u16).to_be_bytes());
+    }
+
+    fn word(&mut self, value: u64) {
+        self.job.extend((value as u32).to_be_bytes());
+    }
+
+    fn words(&mut self, values: &[u64]) {
+        values.iter().for_each(|&value| self.word(value));
+    }
+
+    fn signed(&mut self, value: i64) {
+        self.job.extend((value as i32).to_be_bytes());
+    }
+
+    fn joint(&mut self) {
+        let mut id = self.values.random.next() as u8;
+        while self.joints.contains(&id) {
+            id = id.wrapping_add(1);
+        }
+        self.joints.push(id);
+        let [r, e] = self.values.strength_and_demand(self.values.gj);
+        let other = self.values.random.between(r, LIMIT);
+        let sums = if self.values.random.one_in(2) {
+            [r, other, e]
+        } else {
+            [other, r, e]
+        };
+        self.job.push(id);
+        self.words(&sums);
+    }
+
+    fn column(&mut self) {
+        let length = self.values.length();
+        let r = [(); 4].map(|()| self.values.amount());
+        let ve = self.values.shear(1400 * (r[0] + r[1]) / length * 100);
+        let vr = self.values.amount();
+        self.word(length);
+        self.words(&r);
+        self.words(&[ve, vr]);
+    }
+
+    fn beam(&mut self) {
+        let length = self.values.length();
+        let r = [(); 4].map(|()| self.values.amount());
+        let v0 = self.values.signed_amount();
+        let ve = self.values.shear(1200 * (r[2] + r[3]) / length * 120);
+        let vr = self.values.amount();
+        self.word(length);
+        self.words(&r);
+        self.signed(v0);
+        self.words(&[ve, vr]);
+    }
+
+    fn no_hinges(&mut self) {
+        let length = self.values.length();
+        let me = [(); 2].map(|()| self.values.amount());
+        let v0 = self.values.signed_amount();
+        let vr = self.values.amount();
+        self.word(length);
+        for _ in 0..2 {
+            let place = self.values.random.below(self.joints.len() as u64);
+            self.job.push(self.joints[place as usize]);
+        }
+        self.words(&me);
+        self.signed(v0);
+        self.word(vr);
+    }
+
+    fn wall_base(&mut self) {
+        self.wall = true;
+        let thickness = self.values.side(100, 10_000);
+        let length = match self.values.random.below(4) {
+            0 => self.values.close(4 * thickness, 100, 10_000),
+            _ => self.values.side(100, 10_000),
+        };
+        let [mr, me] = self.values.strength_and_demand(130);
+        let [ve, vr] = [(); 2].map(|()| self.values.amount());
+        self.words(&[length, thickness, mr, me, ve, vr]);
+    }
+
+    fn storey(&mut self) {
+        let [me, ve, vr, ms] = [(); 4].map(|()| self.values.amount());
+        let [j, j0] = self.values.inertias();
+        self.words(&[me, ve, j, j0, vr, ms]);
+    }
+
+    fn soil(&mut self) {
+        self.soil = true;
+        let kind = self.values.random.below(2) as u8;
+        let value = self.values.soil_value(kind);
+        let sensitive = self.values.random.one_in(3) as u8;
+        self.job.push(kind);
+        self.job.extend(value.to_be_bytes());
+        self.job.push(sensitive);
+    }
+
+    fn footing(&mut self) {
+        let sides = [(); 2].map(|()| self.values.side(500, 20_000));
+        let element = self.values.strength_and_demand(self.values.gf);
+        let loads = self.values.loads(sides);
+        let [u, p] = [(); 2].map(|()| self.values.amount());
+        let flags = if self.values.random.one_in(2) {
+            3
+        } else {
+            self.values.random.below(4) as u8
+        };
+        self.words(&sides);
+        self.words(&element);
+        loads.iter().for_each(|&load| self.signed(load));
+        self.words(&[u, p]);
+        self.job.push(flags);
+    }
+
+    fn detail(&mut self) {
+        let place = self.values.random.below(3) as u8;
+        let xu = self.values.side(0, 1000);
+        let xy = self.values.side(0, 1000);
+        let mu = self.values.side(1000, 2000);
+        let lap = self.values.random.below(2) as u8;
+        self.job.push(place);
+        [xu, xy, mu].iter().for_each(|&value| self.half(value));
+        self.job.push(lap);
+    }
+}
+
+// Strengths at the demand.
+
+/// Sets the strengths of an accepted job at the demand ±2, here and there within a 2000th of it; of a footing its
+/// sides at 2, 3 or 4 eccentricities and then the passive thrust; of a detail xu. The job stays accepted.
+pub fn at_demand(random: &mut Random, job: &mut [u8]) {
+    for row in rows_of(job) {
+        set_strength(random, job, &row);
+    }
+    for row in rows_of(job) {
+        if row[1] == 9 && row[2] >= 20_000 && random.one_in(2) {
+            let offset = row[0] as usize + 53;
+            let base = row[6] - 2 * i64::from(read(job, offset)) / 5;
+            let wanted = (random.near(row[5]) - base) * 5;
+            put(job, offset, (wanted + 1).div_euclid(2), 0, LIMIT);
+        }
+    }
+    debug_assert!(size(job).is_ok());
+}
+
+fn rows_of(job: &[u8]) -> Vec<[i64; ROW]> {
+    let mut words = vec![0; size(job).expect("an accepted job") * ROW];
+    run(job, &mut words).expect("an accepted job and enough words");
+    words.as_chunks().0.to_vec()
+}
+
+fn set_strength(random: &mut Random, job: &mut [u8], row: &[i64; ROW]) {
+    let at = row[0] as usize + 1;
+    let side = if random.one_in(2) { row[2] } else { -row[3] };
+    match row[1] {
+        3 => put(job, at + 24, random.near(row[2]), 0, LIMIT),
+        4 => put(job, at + 28, random.near(side), 0, LIMIT),
+        5 => put(job, at + 18, random.near(side), 0, LIMIT),
+        6 => put(job, at + 20, random.near(row[2]), 0, LIMIT),
+        7 => {
+            put(job, at + 16, random.near(row[2]), 0, LIMIT);
+            put(job, at + 20, random.near(row[4]), 0, LIMIT);
+        }
+        9 => {
+            let parts = 2 + random.below(3) as i64;
+            put(job, at, random.near(parts * row[3]), 500, 20_000);
+            put(job, at + 4, random.near(parts * row[4]), 500, 20_000);
+        }
+        _ => {
+            let mu = i64::from(u16::from_be_bytes([job[at + 5], job[at + 6]]));
+            let xu = (row[3] / mu + random.below(3) as i64 - 1).clamp(0, 1000);
+            job[at + 1..at + 3].copy_from_slice(&(xu as u16).to_be_bytes());
+        }
+    }
+}
+
+fn read(job: &[u8], at: usize) -> u32 {
+    u32::from_be_bytes([job[at], job[at + 1], job[at + 2], job[at + 3]])
+}
+
+/// Puts an operand of four bytes where it is in range.
+fn put(job: &mut [u8], at: usize, value: i64, least: i64, most: u64) {
+    if (least..=most as i64).contains(&value) {
+        job[at..at + 4].copy_from_slice(&(value as u32).to_be_bytes());
+    }
+}
+
+// Jobs that should be refused, mostly.
+
+/// An accepted job with one to three damages: bytes changed, a cut, bytes appended, commands swapped, repeated or
+/// left out.
+pub fn damaged(random: &mut Random, job: &[u8]) -> Vec<u8> {
+    let mut job = job.to_vec();
+    for _ in 0..=random.below(3) {
+        damage(random, &mut job);
+    }
+    job
+}
+
+fn damage(random: &mut Random, job: &mut Vec<u8>) {
+    let length = job.len() as u64;
+    if length == 0 {
+        return job.push(random.next() as u8);
+    }
+    let place = random.below(length) as usize;
+    match random.below(9) {
+        0 => job[place] ^= 1 << random.below(8),
+        1 => job[place] = random.next() as u8,
+        2 => job[place] = [0x00, 0x01, 0x7F, 0x80, 0xFF][random.below(5) as usize],
+        3 => job.truncate(place),
+        4 => (0..=random.below(9)).for_each(|_| job.push(random.next() as u8)),
+        _ => rearrange(random, job),
+    }
+}
+
+/// Changes a command's byte, or swaps, repeats or leaves out commands.
+fn rearrange(random: &mut Random, job: &mut Vec<u8>) {
+    let mut commands = split(job);
+    let count = commands.len() as u64;
+    let [one, other] = [(); 2].map(|()| random.below(count) as usize);
+    match random.below(4) {
+        0 => commands.swap(one, other),
+        1 => commands.insert(other, commands[one].clone()),
+        2 => drop(commands.remove(one)),
+        _ => commands[one][0] = random.below(12) as u8,
+    }
+    *job = commands.concat();
+}
+
+/// The commands of a job that is not empty; whatever no longer reads as a command stays in one piece.
+fn split(job: &[u8]) -> Vec<Vec<u8>> {
+    let mut commands = Vec::new();
+    let mut rest = job;
+    while let Some(&code) = rest.first() {
+        let width = WIDTHS
+            .get(usize::from(code))
+            .map_or(rest.len(), |&width| width.min(rest.len()));
+        commands.push(rest[..width].to_vec());
+        rest = &rest[width..];
+    }
+    commands
+}
+
+/// Random bytes.
+pub fn noise(random: &mut Random, length: usize) -> Vec<u8> {
+    (0..length).map(|_| random.next() as u8).collect()
+}
+
+/// Commands of random bytes after settings in range, then end.
+pub fn random_operands(random: &mut Random, commands: usize) -> Vec<u8> {
+    let mut job = Writer::begin(random).job;
+    for _ in 1..commands {
+        let code = 2 + random.below(9) as u8;
+        job.push(code);
+        job.extend(noise(random, WIDTHS[usize::from(code)] - 1));
+    }
+    job.push(0);
+    job
+}

@@ -1,0 +1,304 @@
+//! Document 01 in plain Rust: size, run, total and take-down, written from the paper.
+//! Assumes nothing of the job's bytes, the rows or the number of rows.
+
+mod footing;
+mod members;
+#[cfg(test)]
+mod tests;
+
+use footing::{Footing, Soil};
+use members::{Beam, Column, Detail, Joint, NoHinges, Settings, Storey, Wall, WallBase};
+
+/// Words of a row.
+pub const ROW: usize = 8;
+
+const END: u8 = 0x00;
+const SETTINGS: u8 = 0x01;
+const JOINT: u8 = 0x02;
+const COLUMN: u8 = 0x03;
+const BEAM: u8 = 0x04;
+const NO_HINGES: u8 = 0x05;
+const WALL_BASE: u8 = 0x06;
+const STOREY: u8 = 0x07;
+const SOIL: u8 = 0x08;
+const FOOTING: u8 = 0x09;
+const DETAIL: u8 = 0x0A;
+
+/// Commands of a job, end not counted.
+const MOST_COMMANDS: usize = 4096;
+
+/// Why a call gave no result: 01's number, the offset (or row) and the rows needed.
+#[derive(Clone, Copy, Debug, PartialEq, Eq)]
+pub struct Refusal {
+    pub number: u8,
+    pub offset: usize,
+    pub rows: usize,
+}
+
+impl Refusal {
+    fn at(number: u8, offset: usize) -> Refusal {
+        Refusal {
+            number,
+            offset,
+            rows: 0,
+        }
+    }
+
+    fn short(rows: usize) -> Refusal {
+        Refusal {
+            number: 9,
+            offset: 0,
+            rows,
+        }
+    }
+}
+
+/// Rows failed and checks failed.
+#[derive(Clone, Copy, Debug, Default, PartialEq, Eq)]
+pub struct Totals {
+    pub failed: usize,
+    pub checks: usize,
+}
+
+/// The number of rows of a job.
+pub fn size(job: &[u8]) -> Result<usize, Refusal> {
+    check(job)
+}
+
+/// Writes the rows of a job and gives their number; on a refusal nothing is written.
+pub fn run(job: &[u8], rows: &mut [i64]) -> Result<usize, Refusal> {
+    let needed = check(job)?;
+    if rows.len() / ROW < needed {
+        return Err(Refusal::short(needed));
+    }
+    write(job, &mut rows.as_chunks_mut().0[..needed]);
+    Ok(needed)
+}
+
+/// Rows failed and checks failed among the first `n` rows.
+pub fn total(rows: &[i64], n: usize) -> Result<Totals, Refusal> {
+    if rows.len() / ROW < n {
+        return Err(Refusal::short(n));
+    }
+    let mut totals = Totals::default();
+    for (index, row) in rows.as_chunks::<ROW>().0[..n].iter().enumerate() {
+        let verdict = u8::try_from(row[7]).map_err(|_| Refusal::at(5, index))?;
+        totals.failed += usize::from(verdict != 0);
+        totals.checks += verdict.count_ones() as usize;
+    }
+    Ok(totals)
+}
+
+/// A soil value taken down: tangent (kind 0) times 10,000, or kPa (kind 1) times 1,000.
+pub fn take_down(kind: u8, value: f32) -> Result<u32, Refusal> {
+    let (top, scale) = match kind {
+        0 => (2.0, 10_000.0),
+        1 => (1000.0, 1_000.0),
+        _ => return Err(Refusal::at(5, 0)),
+    };
+    if value.is_sign_negative() || !(value <= top) {
+        return Err(Refusal::at(5, 0));
+    }
+    // 24 significant bits times 14 fit the 53 of an f64, so the product is exact.
+    Ok((f64::from(value) * scale) as u32)
+}
+
+// The first pass: every fault, and the number of rows.
+
+/// What the commands so far have given.
+struct Given {
+    settings: bool,
+    joints: [bool; 256],
+    wall: bool,
+    soil: bool,
+}
+
+/// Tries every fault of a job in 01's order and counts its rows.
+fn check(job: &[u8]) -> Result<usize, Refusal> {
+    let mut given = Given {
+        settings: false,
+        joints: [false; 256],
+        wall: false,
+        soil: false,
+    };
+    let mut commands = 0;
+    let mut rows = 0;
+    let mut at = 0;
+    loop {
+        let code = *job.get(at).ok_or(Refusal::at(1, at))?;
+        let width = width(code).ok_or(Refusal::at(2, at))?;
+        let operands = job[at + 1..].get(..width).ok_or(Refusal::at(1, at))?;
+        if code == END {
+            break;
+        }
+        if commands == MOST_COMMANDS {
+            return Err(Refusal::at(8, at));
+        }
+        if given.settings == (code == SETTINGS) {
+            return Err(Refusal::at(4, at));
+        }
+        rows += given
+            .admit(code, operands)
+            .map_err(|number| Refusal::at(number, at))?;
+        commands += 1;
+        at += 1 + width;
+    }
+    if !given.settings {
+        Err(Refusal::at(4, at))
+    } else if at + 1 < job.len() {
+        Err(Refusal::at(3, at + 1))
+    } else {
+        Ok(rows)
+    }
+}
+
+/// Bytes of a command's operands; none for an unknown command.
+fn width(code: u8) -> Option<usize> {
+    Some(match code {
+        END => 0,
+        SETTINGS | SOIL => 6,
+        JOINT => 13,
+        COLUMN => 28,
+        BEAM => 32,
+        NO_HINGES => 22,
+        WALL_BASE | STOREY => 24,
+        FOOTING => 57,
+        DETAIL => 8,
+        _ => return None,
+    })
+}
+
+impl Given {
+    /// Tries faults 5, 6 and 7 of a command and gives the number of its rows.
+    fn admit(&mut self, code: u8, operands: &[u8]) -> Result<usize, u8> {
+        match code {
+            SETTINGS => {
+                ensure(Settings::read(fixed(operands)).in_range(), 5)?;
+                self.settings = true;
+                Ok(0)
+            }
+            JOINT => {
+                let (id, joint) = Joint::read(fixed(operands));
+                ensure(joint.in_range(), 5)?;
+                ensure(!self.joints[id], 7)?;
+                self.joints[id] = true;
+                Ok(0)
+            }
+            COLUMN => ensure(Column::read(fixed(operands)).in_range(), 5).map(|()| 1),
+            BEAM => ensure(Beam::read(fixed(operands)).in_range(), 5).map(|()| 1),
+            NO_HINGES => {
+                let member = NoHinges::read(fixed(operands));
+                ensure(member.in_range(), 5)?;
+                ensure(
+                    self.joints[member.joints[0]] && self.joints[member.joints[1]],
+                    6,
+                )?;
+                Ok(1)
+            }
+            WALL_BASE => {
+                ensure(WallBase::read(fixed(operands)).in_range(), 5)?;
+                self.wall = true;
+                Ok(1)
+            }
+            STOREY => {
+                ensure(Storey::read(fixed(operands)).in_range(), 5)?;
+                ensure(self.wall, 6)?;
+                Ok(1)
+            }
+            SOIL => {
+                ensure(Soil::read(fixed(operands)).is_some(), 5)?;
+                self.soil = true;
+                Ok(0)
+            }
+            FOOTING => {
+                ensure(Footing::read(fixed(operands)).in_range(), 5)?;
+                ensure(self.soil, 6)?;
+                Ok(2)
+            }
+            _ => ensure(Detail::read(fixed(operands)).in_range(), 5).map(|()| 1),
+        }
+    }
+}
+
+fn ensure(holds: bool, number: u8) -> Result<(), u8> {
+    if holds {
+        Ok(())
+    } else {
+        Err(number)
+    }
+}
+
+// The second pass: the rows of an accepted job.
+
+/// What holds at a command.
+struct Held {
+    settings: Settings,
+    joints: [Joint; 256],
+    wall: Wall,
+    soil: Soil,
+}
+
+impl Held {
+    fn new() -> Held {
+        Held {
+            settings: Settings::default(),
+            joints: [Joint::default(); 256],
+            wall: Wall::default(),
+            soil: Soil::default(),
+        }
+    }
+}
+
+/// Writes the rows of an accepted job; `rows` has exactly as many as the job.
+fn write(job: &[u8], rows: &mut [[i64; ROW]]) {
+    let mut held = Held::new();
+    let mut rows = rows.iter_mut();
+    let mut at = 0;
+    while job[at] != END {
+        let code = job[at];
+        let width = width(code).expect("a known command");
+        let operands = &job[at + 1..][..width];
+        let mut put = |w: [i64; 6]| {
+            let row = rows.next().expect("a row of the job");
+            *row = [
+                at as i64,
+                i64::from(code),
+                w[0],
+                w[1],
+                w[2],
+                w[3],
+                w[4],
+                w[5],
+            ];
+        };
+        match code {
+            SETTINGS => held.settings = Settings::read(fixed(operands)),
+            JOINT => {
+                let (id, joint) = Joint::read(fixed(operands));
+                held.joints[id] = joint;
+            }
+            COLUMN => put(Column::read(fixed(operands)).row(held.settings.q)),
+            BEAM => put(Beam::read(fixed(operands)).row(held.settings.q)),
+            NO_HINGES => put(NoHinges::read(fixed(operands)).row(&held.settings, &held.joints)),
+            WALL_BASE => {
+                let base = WallBase::read(fixed(operands));
+                held.wall = base.wall(held.settings.q);
+                put(base.row(&held.wall));
+            }
+            STOREY => put(Storey::read(fixed(operands)).row(&held.wall)),
+            SOIL => held.soil = Soil::read(fixed(operands)).unwrap_or_default(),
+            FOOTING => {
+                let footing = Footing::read(fixed(operands));
+                put(footing.row(&held, 1));
+                put(footing.row(&held, -1));
+            }
+            _ => put(Detail::read(fixed(operands)).row()),
+        }
+        at += 1 + width;
+    }
+}
+
+/// The operands of a command as an array of its width.
+fn fixed<const N: usize>(operands: &[u8]) -> &[u8; N] {
+    operands.try_into().expect("as wide as the command")
+}

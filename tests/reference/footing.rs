@@ -1,0 +1,136 @@
+//! Soil and footings of document 01: operands, ranges and words 2 to 7 of their rows.
+//! Assumes of a row's operands that they are in range and that a soil was given.
+
+use super::members::{bits, signed, within, word, Coefficient};
+use super::{take_down, Held};
+
+/// Least normal force whose eccentricities and resistance are reported.
+const LEAST_NORMAL: i64 = 20_000;
+
+/// What a soil resists with: the tangent times 10,000, or the undrained strength in Pa.
+#[derive(Clone, Copy)]
+enum Resistance {
+    Granular(i64),
+    Cohesive(i64),
+}
+
+#[derive(Clone, Copy)]
+pub struct Soil {
+    resistance: Resistance,
+    sensitive: bool,
+}
+
+impl Default for Soil {
+    fn default() -> Soil {
+        Soil {
+            resistance: Resistance::Granular(0),
+            sensitive: false,
+        }
+    }
+}
+
+impl Soil {
+    /// The soil of six bytes; none when an operand is out of range.
+    pub fn read(b: &[u8; 6]) -> Option<Soil> {
+        let value = i64::from(take_down(b[0], f32::from_bits(bits(b, 1))).ok()?);
+        let resistance = if b[0] == 0 {
+            Resistance::Granular(value)
+        } else {
+            Resistance::Cohesive(value)
+        };
+        (b[5] <= 1).then_some(Soil {
+            resistance,
+            sensitive: b[5] == 1,
+        })
+    }
+}
+
+/// A non-seismic value and a seismic one.
+type Pair = (i64, i64);
+
+pub struct Footing {
+    b: i64,
+    l: i64,
+    mr: u64,
+    me: u64,
+    n: Pair,
+    x: Pair,
+    y: Pair,
+    h: Pair,
+    u: i64,
+    p: i64,
+    flags: u8,
+}
+
+impl Footing {
+    pub fn read(b: &[u8; 57]) -> Footing {
+        let pair = |at| (signed(b, at), signed(b, at + 4));
+        Footing {
+            b: word(b, 0) as i64,
+            l: word(b, 4) as i64,
+            mr: word(b, 8),
+            me: word(b, 12),
+            n: pair(16),
+            x: pair(24),
+            y: pair(32),
+            h: pair(40),
+            u: word(b, 48) as i64,
+            p: word(b, 52) as i64,
+            flags: b[56],
+        }
+    }
+
+    pub fn in_range(&self) -> bool {
+        let side = 500..=20_000;
+        let pairs = [self.n, self.x, self.y, self.h];
+        side.contains(&self.b)
+            && side.contains(&self.l)
+            && within(self.mr)
+            && within(self.me)
+            && pairs
+                .iter()
+                .all(|pair| within(pair.0.unsigned_abs()) && within(pair.1.unsigned_abs()))
+            && within(self.u as u64)
+            && within(self.p as u64)
+            && self.flags <= 3
+    }
+
+    /// Words 2 to 7 of the direction `sign`, 1 or −1.
+    pub fn row(&self, held: &Held, sign: i64) -> [i64; 6] {
+        let q = held.settings.q;
+        let a = Coefficient::new(held.settings.gf, self.mr, self.me, q);
+        let n = a.sum_down(self.n, sign);
+        let h = a.size_up(self.h, sign);
+        if n < LEAST_NORMAL {
+            return [n, 0, 0, h, 0, 16];
+        }
+        let eccentricity =
+            |moment| (1000 * a.size_up(moment, sign) as u64).div_ceil(n as u64) as i64;
+        let (ex, ey) = (eccentricity(self.x), eccentricity(self.y));
+        let r = self.base_resistance(held.soil.resistance, n, ex, ey) + 2 * self.p / 5;
+        let excepted = self.flags == 3 && q > 100 && a.below_cap;
+        let verdict = i64::from(self.overturns(held.soil.sensitive, excepted, ex, ey)) << 2
+            | i64::from(h > r) << 3;
+        [n, ex, ey, h, r, verdict]
+    }
+
+    fn base_resistance(&self, resistance: Resistance, n: i64, ex: i64, ey: i64) -> i64 {
+        match resistance {
+            Resistance::Granular(t) => (n - self.u).max(0) * t / 10_000,
+            Resistance::Cohesive(s) => {
+                let area = (self.b - 2 * ex).max(0) * (self.l - 2 * ey).max(0);
+                (area * s / 1_000_000).min(2 * n / 5)
+            }
+        }
+    }
+
+    /// Bit 4: an eccentricity beyond what the soil and the exception allow.
+    fn overturns(&self, sensitive: bool, excepted: bool, ex: i64, ey: i64) -> bool {
+        let exceeds = |parts: i64| parts * ex > self.b || parts * ey > self.l;
+        if sensitive {
+            exceeds(4)
+        } else {
+            exceeds(3) && !(excepted && 2 * ex < self.b && 2 * ey < self.l)
+        }
+    }
+}
