@@ -1,6 +1,7 @@
 //! Times the proved library against the reference, both built for release, on the same jobs in one process with warm buffers.
 //! Argument: rounds, of which the best counts. Prints tables in markdown: ns a command (a row, a value) of both, and the ratio.
-//! Assumes nothing. Built like tests/compare.rs, as tests/run says.
+//! Assumes nothing. After `rt staticlib capacity_c`, built at the root of the repository by
+//! rustc --edition 2021 -O -L target/staticlib -o target/tests/benchmark tests/benchmark.rs.
 
 #![allow(dead_code)]
 

@@ -2,7 +2,7 @@
 -- as lent, and a refusal leaves every word. 01, "Calls". Assumes nothing.
 use mathlib.Core.Path.{_≡_, refl, sym, ap, _∙_}
 use mathlib.Core.Bool.{Bool, true, false, cond}
-use mathlib.Core.List.{List, [], _∷_, _++_, append-assoc}
+use mathlib.Core.List.{List, _++_, append-assoc}
 use Prim.Native.Nat.{ℕ, _+_, _*_, _≤_}
 use native.Mathlib.Omega.{arith}
 use borrow.Author.Tests.{le-leb, leb-true}
@@ -11,19 +11,12 @@ use lib.IntN.{ℤ}
 use lib.ListN.{length, take, drop, length-append, length-drop}
 use lib.Seq.{take-at, drop-at, drop-append-le}
 use Rattle.held.specs.Running.{joined}
-use Rattle.held.proofs.Laws.{Eights}
 use Rattle.job.specs.Placed.{Placed, Job, refused, accepted, placed, allRows}
 use Rattle.capacity.specs.Calls.{runFrom, runOf, rowsFrom, rowsAfter}
-use Rattle.capacity.proofs.Written.{rows-eight}
-
-differ : true ≡ false → ⊥
-differ e = let z : _≡_ {A = ℕ} 0 1 = cc in omega arith
+use Rattle.capacity.proofs.Runs.{differ}
+use Rattle.capacity.proofs.Written.{rows-eight, joined-length}
 
 -- ---- words put in front of what is left of a slice
-
-joined-length : (rows : List (List ℤ)) → Eights rows → length (joined rows) ≡ 8 * length rows
-joined-length [] e = refl
-joined-length (r ∷ rs) e = length-append r (joined rs) ∙ omega (arith, e .0, joined-length rs (e .1))
 
 abbrev put : List ℤ → ℕ → List ℤ → List ℤ
 put rows n m = cond (leb n (length m)) (rows ++ drop n m) m

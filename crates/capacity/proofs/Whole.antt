@@ -11,10 +11,12 @@ use Rattle.format.specs.Commands.{byteOf}
 use Rattle.format.proofs.Numbers.{Bytes}
 use Rattle.held.specs.Rows.{rowsOf, words}
 use Rattle.held.specs.Running.{joined}
+use Rattle.held.proofs.Laws.{words-eight}
 use Rattle.job.specs.Placed.{Placed, Job, accepted, placed, rowsAt, allRows}
 use Rattle.capacity.specs.DemandThree.{Claim, claimsOf, rowRead, RowsHold, AllHold, JobHolds, DemandThree}
 use Rattle.capacity.proofs.Ranges.{AllGood, GoodJob, all-good}
 use Rattle.capacity.proofs.RowsTrue.{Pairwise, rows-true}
+use Rattle.capacity.proofs.Written.{joined-length}
 
 -- row n behind 8·n words is read back
 read-back : (before after : List ℤ) (n offset byte : ℕ) (r : Row) → length before ≡ 8 * n → rowRead (before ++ (words offset byte r ++ after)) n ≡ r
@@ -56,11 +58,8 @@ joined-append : (xs ys : List (List ℤ)) → joined (xs ++ ys) ≡ joined xs ++
 joined-append [] ys = refl
 joined-append (x ∷ xs) ys = ap (λ (l : List ℤ). x ++ l) (joined-append xs ys) ∙ sym (append-assoc x (joined xs) (joined ys))
 
-joined-length : (offset byte : ℕ) (rows : List Row) → length (joined (map (words offset byte) rows)) ≡ 8 * length rows
-joined-length offset byte [] = refl
-joined-length offset byte (r ∷ rs) =
-    let w = words offset byte r in
-    length-append w (joined (map (words offset byte) rs)) ∙ omega (arith, joined-length offset byte rs)
+own-length : (offset byte : ℕ) (rows : List Row) → length (joined (map (words offset byte) rows)) ≡ 8 * length rows
+own-length offset byte rows = joined-length (map (words offset byte) rows) (words-eight offset byte rows) ∙ ap (λ (n : ℕ). 8 * n) (length-map rows (words offset byte))
 
 -- all rows of all placed commands
 all-hold : (ps : List Placed) (before after : List ℤ) (n : ℕ) → length before ≡ 8 * n → AllGood ps → AllHold (before ++ (joined (allRows ps) ++ after)) n ps
@@ -72,14 +71,13 @@ all-hold (p ∷ ps) before after n e g =
     let own = joined (rowsAt p) in
     let rest = joined (allRows ps) in
     let c : length (claimsOf p) ≡ length (rowsAt p) = claims-length (claimsOf p) rows t ∙ sym (length-map rows (words (p .offset) (byteOf (p .command)))) in
-    let split : joined (rowsAt p ++ allRows ps) ++ after ≡ own ++ (rest ++ after) =
-    ap (λ (l : List ℤ). l ++ after) (joined-append (rowsAt p) (allRows ps)) ∙ append-assoc own rest after in (
+    let split : joined (rowsAt p ++ allRows ps) ++ after ≡ own ++ (rest ++ after) = ap (λ (l : List ℤ). l ++ after) (joined-append (rowsAt p) (allRows ps)) ∙ append-assoc own rest after in (
       c,
       subst (λ (m : List ℤ). RowsHold (before ++ m) n (claimsOf p)) (sym split)
           (rows-hold (claimsOf p) rows before (rest ++ after) n (p .offset) (byteOf (p .command)) e t),
       subst (λ (m : List ℤ). AllHold m (n + length (rowsAt p)) ps) (append-assoc before own (rest ++ after) ∙ ap (λ (l : List ℤ). before ++ l) (sym split))
           (all-hold ps (before ++ own) after (n + length (rowsAt p))
-          (length-append before own ∙ omega (arith, e, joined-length (p .offset) (byteOf (p .command)) rows, length-map rows (words (p .offset) (byteOf (p .command))))) (g .1)),
+          (length-append before own ∙ omega (arith, e, own-length (p .offset) (byteOf (p .command)) rows, length-map rows (words (p .offset) (byteOf (p .command))))) (g .1)),
     )
 
 job-holds : (j : Job) (after : List ℤ) → GoodJob j → (ps : List Placed) → j ≡ accepted ps → JobHolds (joined (allRows ps) ++ after) j

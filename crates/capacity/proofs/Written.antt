@@ -1,11 +1,11 @@
 -- The walk from the start writes the rows of an accepted job where they fit. Assumes nothing.
-use mathlib.Core.Path.{_≡_, _∙_, subst}
+use mathlib.Core.Path.{_≡_, refl, _∙_, subst}
 use mathlib.Core.List.{List, [], _∷_, _++_}
 use Prim.Native.Nat.{ℕ, _+_, _*_, _≤_}
 use native.Mathlib.Omega.{arith}
 use native.Mathlib.Nat.{zero-add}
 use lib.IntN.{ℤ}
-use lib.ListN.{length, drop}
+use lib.ListN.{length, drop, length-append}
 use Rattle.format.specs.Commands.{byteOf}
 use Rattle.format.proofs.Numbers.{Bytes}
 use Rattle.held.specs.Rows.{rowsOf}
@@ -25,6 +25,11 @@ pub rows-eight : (ps : List Placed) → Eights (allRows ps)
 unfolding allRows
 rows-eight [] = tt
 rows-eight (p ∷ ps) = eights-append (rowsAt p) (allRows ps) (words-eight (p .offset) (byteOf (p .command)) (rowsOf (p .held) (p .command))) (rows-eight ps)
+
+-- so the words of all rows are eight times as many
+pub joined-length : (rows : List (List ℤ)) → Eights rows → length (joined rows) ≡ 8 * length rows
+joined-length [] e = refl
+joined-length (r ∷ rs) e = length-append r (joined rs) ∙ omega (arith, e .0, joined-length rs (e .1))
 
 memory-of : (j : Job) (ps : List Placed) (f : Final) (m : List ℤ) → j ≡ accepted ps → Matches j f 0 m → 8 * length (allRows ps) ≤ length m → f .memory ≡ joined (allRows ps) ++ drop (8 * length (allRows ps)) m
 memory-of j ps f m e k h =

@@ -1,7 +1,7 @@
 /* EAK 2000 capacity check: the calls for C and for every language that calls C functions.
  *
  * Link with libcapacity_c.a (x86-64 Linux). The library keeps nothing between calls, takes no memory of its own besides the
- * stack (about 20 KB) and calls nothing but memset, so calls in different threads do not disturb each other.
+ * stack (under 16 KB) and calls nothing but memset, so calls in different threads do not disturb each other.
  *
  * Lent memory. A pointer and a number of elements, which the caller owns; the call reads or writes there during the call and
  * keeps no pointer. A pointer is never NULL, also where the number is 0 (any address that is aligned will do then). Words
@@ -62,7 +62,7 @@ struct eak_job_answer eak_size(const uint8_t *job, size_t job_bytes);
 
 /* Writes the rows of a job, EAK_ROW_WORDS words each, from rows[0] on, and answers their number. `row_words` counts words, not
  * rows or bytes; EAK_ROW_WORDS times the rows of eak_size is enough. Words after the last row stay as they were, and in a
- * refusal every word does. The stretch has room for at most 8,190 rows in any job: two for each of 4,095 commands. */
+ * refusal every word does. No job has more than 8,190 rows: two for each of 4,095 commands after the settings. */
 struct eak_job_answer eak_run(const uint8_t *job, size_t job_bytes, int64_t *rows, size_t row_words);
 
 /* The rows failed and the checks failed of the first n rows, in a stretch of `row_words` words. Tries 9 (fewer than 8 times n

@@ -28,14 +28,15 @@ ghost use Rattle.held.specs.Held.{groundOf};
 ghost use Rattle.held.specs.Rows.{words};
 ghost use Rattle.held.specs.Running.{rowsOfByte, jointGiven, jointHeld, jointStored, nextJoints, startState, withSettings, withWall, withGround, nextState, absentIn, repeatedIn, rowsFrom, stored, storedAll, Checked, SettingsRange, SoundJoints, NextAsks, EmitAsks};
 
-// Settings, the running values of the latest wall, the latest soil; each with whether it was given.
+// The running values of the latest wall, settings, the latest soil; then whether each was given. The fields stand by their size,
+// so that a copy of a state has no gap within.
 pub struct State {
-    pub given: bool,
-    pub settings: Settings,
-    pub walled: bool,
     pub wall: Wall,
-    pub founded: bool,
+    pub settings: Settings,
     pub soil: Soil,
+    pub given: bool,
+    pub walled: bool,
+    pub founded: bool,
     pub sensitive: bool,
 }
 

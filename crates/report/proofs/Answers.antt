@@ -1,12 +1,12 @@
 -- The listing of a job in each of the three answers of `run`, over plain values. Assumes nothing.
-use mathlib.Core.Path.{_≡_, refl, sym, ap, ap₂, _∙_, subst}
-use mathlib.Core.Bool.{Bool, true, false, cond}
-use mathlib.Core.List.{List, _++_}
-use Prim.Native.Nat.{ℕ, _+_, _*_, _≤_, _<_}
+use mathlib.Core.Path.{_≡_, refl, sym, ap, ap₂, _∙_}
+use mathlib.Core.Bool.{Bool, true, false, cond, true≢false}
+use mathlib.Core.List.{List}
+use Prim.Native.Nat.{ℕ, _*_, _≤_, _<_}
 use native.Mathlib.Nat.{lt-irrefl}
 use native.Mathlib.Omega.{arith}
 use borrow.Author.Tests.{le-leb, lt-leb, leb-true, leb-false, le-ltb, lt-ltb}
-use lib.Dec.{leb, ltb}
+use lib.Dec.{leb}
 use lib.IntN.{ℤ}
 use lib.ListN.{length, drop, length-append, length-drop}
 use Rattle.text.specs.Lines.{refusedLine}
@@ -17,9 +17,6 @@ use Rattle.job.specs.Answers.{Answer, rowsAnswer, refusedAnswer}
 use Rattle.capacity.specs.Calls.{tooShortAnswer, runFrom, runOf, rowsFrom, rowsAfter}
 use Rattle.report.specs.Listing.{mostBytes, mostRows, rowsListing, acceptedListing, jobListing, listingOf}
 use Rattle.report.proofs.FirstRows.{first-rows}
-
-differ : true ≡ false → ⊥
-differ e = let z : _≡_ {A = ℕ} 0 1 = cc in omega arith
 
 -- the words of the slice that is lent to `run`
 abbrev pub lent : ℕ
@@ -41,7 +38,7 @@ refused-from : (number offset : ℕ) (j : Job) → refusedAnswer number offset �
 refused-from number offset (refused n o) e = sym (ap₂ refusedLine (ap (λ (a : Answer). a .number) e) (ap (λ (a : Answer). a .offset) e))
 refused-from number offset (accepted ps) e =
     by-room ps (λ a. refusedAnswer number offset ≡ a → acceptedListing (allRows ps) ≡ refusedLine number offset)
-    (λ y q. absurd (differ (sym (ap (λ (a : Answer). a .accepted) q))))
+    (λ y q. absurd (true≢false (sym (ap (λ (a : Answer). a .accepted) q))))
     (λ y q. absurd (lt-irrefl 0 (omega (arith, leb-false (8 * length (allRows ps)) lent y, ap (λ (a : Answer). a .rows) q)))) e
 
 pub refused-listing : (job : List ℕ) (number offset : ℕ) → refusedAnswer number offset ≡ runOf job lent → jobListing (placed job) ≡ refusedLine number offset
@@ -55,7 +52,7 @@ short-from n (refused number offset) e =
     ap₂ refusedLine (sym (ap (λ (a : Answer). a .number) e)) (sym (ap (λ (a : Answer). a .offset) e) ∙ sym (ap (λ (a : Answer). a .rows) e))
 short-from n (accepted ps) e =
     by-room ps (λ a. tooShortAnswer n ≡ a → acceptedListing (allRows ps) ≡ refusedLine 9 n)
-    (λ y q. absurd (differ (sym (ap (λ (a : Answer). a .accepted) q))))
+    (λ y q. absurd (true≢false (sym (ap (λ (a : Answer). a .accepted) q))))
     (λ y q.
     let l = lt-leb (length (allRows ps)) mostRows (omega (arith, leb-false (8 * length (allRows ps)) lent y)) in
     rw l (ap (refusedLine 9) (sym (ap (λ (a : Answer). a .rows) q)))) e
@@ -72,7 +69,7 @@ pub record Listed (j : Job) (n : ℕ) (words : List ℤ) : Type 0 where
   pub listing : jobListing j ≡ rowsListing words n
 
 rows-from : (n : ℕ) (m : List ℤ) → length m ≡ lent → (j : Job) → length (rowsFrom j m) ≡ lent → rowsAnswer n ≡ runFrom j lent → Listed j n (rowsFrom j m)
-rows-from n m k (refused number offset) kept e = absurd (differ (ap (λ (a : Answer). a .accepted) e))
+rows-from n m k (refused number offset) kept e = absurd (true≢false (ap (λ (a : Answer). a .accepted) e))
 rows-from n m k (accepted ps) kept e =
     by-room ps (λ a. rowsAnswer n ≡ a → Listed (accepted ps) n (rowsFrom (accepted ps) m))
     (λ y q.
@@ -83,7 +80,7 @@ rows-from n m k (accepted ps) kept e =
     let l = le-leb (length rows) mostRows (omega arith) in
     let same = first-rows (joined rows) (drop (8 * length rows) m) (length rows) (omega (arith, simp (length-append, length-drop) at (rw room at kept))) in
     record { few = omega arith; listing = rw (l, room, c) (sym same) })
-    (λ y q. absurd (differ (ap (λ (a : Answer). a .accepted) q))) e
+    (λ y q. absurd (true≢false (ap (λ (a : Answer). a .accepted) q))) e
 
 pub rows-listing : (job : List ℕ) (n : ℕ) (m : List ℤ) → length m ≡ lent → length (rowsAfter job m) ≡ lent → rowsAnswer n ≡ runOf job lent → Listed (placed job) n (rowsAfter job m)
 unfolding runOf rowsAfter

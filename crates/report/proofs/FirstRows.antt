@@ -4,10 +4,9 @@ use mathlib.Core.List.{List, _++_}
 use Prim.Native.Nat.{ℕ, zero, suc, _+_, _*_, _≤_}
 use native.Mathlib.Omega.{arith}
 use lib.IntN.{ℤ}
-use lib.ListN.{length, take, drop, length-drop}
+use lib.ListN.{length, drop, length-drop}
 use lib.Seq.{take-append-le, drop-append-le}
 use Rattle.text.specs.Lines.{rowLine, rowWords, rowsText, listingText}
-use Rattle.totals.specs.Total.{totalOf}
 use Rattle.totals.proofs.Laws.{same-first-words}
 use Rattle.report.specs.Listing.{rowsListing}
 

@@ -1,19 +1,14 @@
 -- `capacity::run` meets its contract, in each of its three cases (Runs.antt), with demand 3 of the words written (Whole.antt).
 -- Assumes nothing.
-use mathlib.Core.Path.{_≡_, sym, ap, _∙_, subst}
-use mathlib.Core.Bool.{true, false}
-use Prim.Native.Nat.{ℕ}
+use mathlib.Core.Path.{sym, ap, _∙_, subst}
 use native.Mathlib.Omega.{arith}
 use borrow.Author.Needs.{needs}
 use Rattle.job.specs.Answers.{rowCountAnswer}
 use Rattle.capacity.specs.DemandThree.{DemandThree}
-use Rattle.capacity.proofs.Runs.{refused-run, accepted-run, short-run, enough, full-run}
+use Rattle.capacity.proofs.Runs.{differ, refused-run, accepted-run, short-run, enough, full-run}
 use Rattle.capacity.proofs.Whole.{demand-three}
 use Rattle.capacity.proofs.run.Statement.{statement}
 use Rattle.capacity.proofs.run.Tie as tie
-
-differ : false ≡ true → ⊥
-differ e = let z : _≡_ {A = ℕ} 0 1 = cc in omega arith
 
 table-requires : tie.Need-table-requires
 table-requires c κs = search needs
@@ -33,8 +28,8 @@ returns c =
     let n = k .before .before in
     let s = n .before .before .before .before in
     let e = sym (ap rowCountAnswer (k .counted2 .given .1)) ∙ n .count .ensures in
-    let r = short-run (s .args .job .now) _ (s .args .rows .now) (accepted-run (s .args .job .now) _ e) (c .if1 .taken) in
-    (r .0, (r .1, λ f. absurd (differ f)))
+    let r = short-run (s .args .job .now) _ (s .args .rows .now) (accepted-run (s .args .job .now) _ e) (omega (arith, c .if1 .taken)) in
+    (r .0, (r .1, λ f. absurd (differ (sym f))))
 
 write-requires : tie.Need-write-requires
 write-requires c κs = search needs
@@ -46,7 +41,7 @@ returns-2 c =
     let s = n .before .before .before .before in
     let e = sym (ap rowCountAnswer (k .counted .given .1)) ∙ n .count .ensures in
     let r = refused-run (s .args .job .now) _ _ (s .args .rows .now) e in
-    (r .0, (r .1, λ f. absurd (differ f)))
+    (r .0, (r .1, λ f. absurd (differ (sym f))))
 
 same-length : tie.Need-same-length
 same-length c = search needs
@@ -60,8 +55,8 @@ returns-3 c =
     let s = n .before .before .before .before in
     let e = sym (ap rowCountAnswer (k .counted2 .given .1)) ∙ n .count .ensures in
     let a = accepted-run (s .args .job .now) _ e in
-    let fits = enough (s .args .job .now) _ (s .args .rows .now) a (i .if1 .left) in
-    let r = full-run (s .args .job .now) _ (s .args .rows .now) a (i .if1 .left) in
+    let fits = enough (s .args .job .now) _ (s .args .rows .now) a (omega (arith, i .if1 .left)) in
+    let r = full-run (s .args .job .now) _ (s .args .rows .now) a (omega (arith, i .if1 .left)) in
     let written = w .write .ensures .written (a .commands) (a .is) fits in (
       r .0,
       (

@@ -18,7 +18,7 @@ walk-requires : tie.Need-walk-requires
 walk-requires c κs =
     let f = c .before .before in
     let s = f .before .before in
-    (s .pre, subst (λ (p : Place). WalkAsks (s .args .job .now) p noJoints 4097) (sym (f .first-place .ensures)) (begin-asks (s .args .job .now) 4097))
+    (s .pre, subst (λ (p : Place). WalkAsks (s .args .job .now) p noJoints _) (sym (f .first-place .ensures)) (begin-asks (s .args .job .now) _))
 
 same-length : tie.Need-same-length
 same-length c = search needs

@@ -1,5 +1,5 @@
 -- `vectors::agrees` meets its contract: the bytes compared are those of the listing. Assumes nothing.
-use mathlib.Core.Path.{_≡_, sym, _∙_}
+use mathlib.Core.Path.{sym, _∙_}
 use Prim.Native.Nat.{_≤_}
 use lib.ListN.{length}
 use Rattle.vectors.proofs.Reading.{read-back, part-length}
