@@ -73,6 +73,13 @@ impl Jobs {
             rows: vec![0; 2 * 4096 * reference::ROW],
         }
     }
+
+    fn each(&self, call: impl FnMut(&[u8])) {
+        self.jobs
+            .iter()
+            .map(|job| black_box(job.as_slice()))
+            .for_each(call)
+    }
 }
 
 /// Times both implementations: ns a unit.
@@ -84,16 +91,8 @@ fn run(rounds: usize, jobs: &Jobs) -> [f64; 2] {
     race(
         rounds,
         jobs.commands,
-        || {
-            jobs.jobs
-                .iter()
-                .for_each(|job| keep(library::run(black_box(job), &mut rows)))
-        },
-        || {
-            jobs.jobs
-                .iter()
-                .for_each(|job| keep(reference::run(black_box(job), &mut other)))
-        },
+        || jobs.each(|job| keep(library::run(job, &mut rows))),
+        || jobs.each(|job| keep(reference::run(job, &mut other))),
     )
 }
 
@@ -101,16 +100,8 @@ fn size(rounds: usize, jobs: &Jobs) -> [f64; 2] {
     race(
         rounds,
         jobs.commands,
-        || {
-            jobs.jobs
-                .iter()
-                .for_each(|job| keep(library::size(black_box(job))))
-        },
-        || {
-            jobs.jobs
-                .iter()
-                .for_each(|job| keep(reference::size(black_box(job))))
-        },
+        || jobs.each(|job| keep(library::size(job))),
+        || jobs.each(|job| keep(reference::size(job))),
     )
 }
 
