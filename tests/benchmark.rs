@@ -1,5 +1,6 @@
 //! Times the proved library against the reference, both built for release, on the same jobs in one process with warm buffers.
-//! Argument: rounds, of which the best counts. Prints tables in markdown: ns a command (a row, a value) of both, and the ratio.
+//! Arguments: rounds, of which the best counts; one call, where not all are wanted (run, size, fault, total, take-down). Prints
+//! tables in markdown: ns a command (a row, a value) of both, and the ratio.
 //! Assumes nothing. After `rt staticlib capacity_c`, built at the root of the repository by
 //! rustc --edition 2021 -O -L target/staticlib -o target/tests/benchmark tests/benchmark.rs.
 
@@ -26,12 +27,26 @@ const KINDS: [(&str, Mix); 8] = [
     ("even mix", Mix::EVEN),
 ];
 
+/// The calls on a job or its rows, and what their time is divided by.
+const CALLS: [(&str, &str, Both); 4] = [
+    ("run", "command", run),
+    ("size", "command", size),
+    ("fault", "command", fault),
+    ("total", "row", total),
+];
+
 fn main() {
-    let rounds = std::env::args()
-        .nth(1)
+    let mut arguments = std::env::args().skip(1);
+    let rounds = arguments
+        .next()
         .map_or(40, |text| text.parse().expect("a number"));
-    for (call, both) in [("run", run as Both), ("size", size), ("total", total)] {
-        let unit = if call == "total" { "row" } else { "command" };
+    let picked = arguments.next();
+    let wanted = |call: &str| picked.as_deref().is_none_or(|name| name == call);
+    if !wanted("take-down") && !CALLS.iter().any(|(call, ..)| wanted(call)) {
+        eprintln!("the calls are run, size, fault, total, take-down");
+        std::process::exit(2);
+    }
+    for (call, unit, both) in CALLS.into_iter().filter(|(call, ..)| wanted(call)) {
         println!("\n| {call}, ns a {unit} | commands | library | reference | ratio |\n|---|---:|---:|---:|---:|");
         for (kind, mix) in KINDS {
             for commands in COMMANDS {
@@ -40,9 +55,11 @@ fn main() {
             }
         }
     }
-    println!("\n| take-down, ns a value | values | library | reference | ratio |\n|---|---:|---:|---:|---:|");
-    for (kind, name) in ["tangent", "strength"].into_iter().enumerate() {
-        print(name, "4096", take_down(rounds, kind as u8));
+    if wanted("take-down") {
+        println!("\n| take-down, ns a value | values | library | reference | ratio |\n|---|---:|---:|---:|---:|");
+        for (kind, name) in ["tangent", "strength"].into_iter().enumerate() {
+            print(name, "4096", take_down(rounds, kind as u8));
+        }
     }
 }
 
@@ -105,6 +122,15 @@ fn size(rounds: usize, jobs: &Jobs) -> [f64; 2] {
     )
 }
 
+fn fault(rounds: usize, jobs: &Jobs) -> [f64; 2] {
+    race(
+        rounds,
+        jobs.commands,
+        || jobs.each(|job| keep(library::fault(job))),
+        || jobs.each(|job| keep(reference::fault(job))),
+    )
+}
+
 /// Of the rows of each job.
 fn total(rounds: usize, jobs: &Jobs) -> [f64; 2] {
     let lists: Vec<(Vec<i64>, usize)> = jobs
@@ -160,7 +186,7 @@ fn keep<T>(result: T) {
     black_box(result);
 }
 
-/// The best time of each, in turn, by units.
+/// The best time of each, by units; who goes first changes from round to round.
 fn race(
     rounds: usize,
     units: usize,
@@ -168,14 +194,17 @@ fn race(
     mut reference: impl FnMut(),
 ) -> [f64; 2] {
     let mut best = [f64::INFINITY; 2];
-    for _ in 0..rounds {
-        best[0] = best[0].min(time(&mut library));
-        best[1] = best[1].min(time(&mut reference));
+    let calls: [&mut dyn FnMut(); 2] = [&mut library, &mut reference];
+    for round in 0..rounds {
+        for turn in [round % 2, 1 - round % 2] {
+            best[turn] = best[turn].min(time(calls[turn]));
+        }
     }
     best.map(|ns| ns / units as f64)
 }
 
-fn time(call: &mut impl FnMut()) -> f64 {
+/// ns of a call, made once before it is timed.
+fn time(call: &mut dyn FnMut()) -> f64 {
     call();
     let start = Instant::now();
     call();

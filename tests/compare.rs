@@ -1,5 +1,6 @@
-//! Compares the proved library with the reference on random jobs: size, run, total and take-down, with guard words around the
-//! rows. Arguments: jobs, seed. Prints `N jobs agree`, or the first disagreement with its job in hexadecimal.
+//! Compares the proved library with the reference on random jobs: size, fault, run, total and take-down, with guard words around
+//! the rows. Arguments: jobs, seed. Prints `N jobs agree`, or the first disagreement with its job in hexadecimal. A run of
+//! 100,000 jobs or more fails too when an operand was never at fault.
 //! Assumes nothing. Built by tests/run.
 
 mod generate;
@@ -7,10 +8,19 @@ mod library;
 mod reference;
 
 use generate::{Mix, Random};
-use reference::{Refusal, ROW};
+use reference::{Fault, Refusal, ROW};
 
 /// Words before and after the rows that a call is lent.
 const GUARD: usize = 16;
+
+/// Jobs among which every operand that has a range is at fault at least once.
+const MANY: u64 = 100_000;
+
+/// The number of operands of each command, from 00 to 0A.
+const OPERANDS: [usize; 11] = [0, 3, 4, 7, 8, 7, 6, 6, 3, 15, 5];
+
+/// Command and place of the ids, which have no range.
+const IDS: [(usize, usize); 3] = [(2, 0), (5, 1), (5, 2)];
 
 fn main() {
     let arguments: Vec<u64> = std::env::args()
@@ -29,16 +39,47 @@ fn main() {
         }
     }
     eprintln!("{tally}");
+    eprintln!("{}", tally.operands());
+    let missed = tally.missed();
+    if jobs >= MANY && !missed.is_empty() {
+        println!("never at fault (command, operand): {missed:?}");
+        std::process::exit(1);
+    }
     println!("{jobs} jobs agree");
 }
 
-/// What was met, by outcome of run.
+/// What was met, by outcome of run, and the operands at fault.
 #[derive(Default)]
 struct Tally {
     accepted: u64,
     rows: u64,
     /// By number, from 1 to 9.
     refused: [u64; 10],
+    /// Jobs by the command and the operand at fault.
+    at_fault: [[u64; 15]; 11],
+}
+
+impl Tally {
+    fn fault(&mut self, fault: &Fault) {
+        if fault.number == 5 {
+            self.at_fault[fault.command as usize][fault.operand as usize] += 1;
+        }
+    }
+
+    /// The jobs by operand at fault, in the order of the file, for each command with operands.
+    fn operands(&self) -> String {
+        let counts = (1..OPERANDS.len())
+            .map(|code| format!("{code}: {:?}", &self.at_fault[code][..OPERANDS[code]]));
+        format!("operand at fault {}", counts.collect::<Vec<_>>().join(" "))
+    }
+
+    /// The operands with a range that were never at fault.
+    fn missed(&self) -> Vec<(usize, usize)> {
+        (1..OPERANDS.len())
+            .flat_map(|code| (0..OPERANDS[code]).map(move |place| (code, place)))
+            .filter(|pair| !IDS.contains(pair) && self.at_fault[pair.0][pair.1] == 0)
+            .collect()
+    }
 }
 
 impl std::fmt::Display for Tally {
@@ -67,7 +108,7 @@ fn draw(random: &mut Random, number: u64) -> Vec<u8> {
     }
     let commands = 1 + random.below(40) as usize;
     let mut job = generate::valid(random, commands, &Mix([1, 2, 2, 3, 2, 4, 1, 5, 1]));
-    match number % 8 {
+    match number % 10 {
         0 | 1 => (),
         2 | 3 => generate::at_demand(random, &mut job),
         4 => job = generate::damaged(random, &job),
@@ -76,6 +117,11 @@ fn draw(random: &mut Random, number: u64) -> Vec<u8> {
             job = generate::damaged(random, &job);
         }
         6 => job = generate::random_operands(random, commands),
+        7 => job = generate::out_of_range(random, &job),
+        8 => {
+            job = generate::out_of_range(random, &job);
+            job = generate::damaged(random, &job);
+        }
         _ => {
             let length = random.below(200) as usize;
             job = generate::noise(random, length);
@@ -107,6 +153,9 @@ fn longest(random: &mut Random, commands: usize) -> Vec<u8> {
 fn compare(random: &mut Random, job: &[u8], tally: &mut Tally) -> Result<(), String> {
     let size = reference::size(job);
     same("size", &library::size(job), &size)?;
+    let fault = reference::fault(job);
+    same("fault", &library::fault(job), &fault)?;
+    tally.fault(&fault);
     let needed = size.unwrap_or(random.below(12) as usize);
     let long = ROW * needed + random.below(20) as usize;
     let short = random.below((ROW * needed).max(1) as u64) as usize;

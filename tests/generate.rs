@@ -1,8 +1,10 @@
-//! Pseudo-random jobs of document 01: valid ones, ones with strengths at the demand, damaged ones, noise.
+//! Pseudo-random jobs of document 01: valid ones, ones with strengths at the demand, ones with operands out of range, damaged
+//! ones, noise.
 //! Assumes nothing; the same seed gives the same jobs.
 
 #![allow(dead_code)]
 
+mod faults;
 mod values;
 
 use crate::reference::{run, size, ROW};
@@ -289,6 +291,23 @@ fn put(job: &mut [u8], at: usize, value: i64, least: i64, most: u64) {
 }
 
 // Jobs that should be refused, mostly.
+
+/// An accepted job with operands out of range or a broken relation in one command; each kind of command that the job has is as
+/// likely as another.
+pub fn out_of_range(random: &mut Random, job: &[u8]) -> Vec<u8> {
+    let mut commands = split(job);
+    let present: Vec<u8> = (1..=10)
+        .filter(|&code| commands.iter().any(|command| command[0] == code))
+        .collect();
+    let code = present[random.below(present.len() as u64) as usize];
+    let mut alike: Vec<&mut Vec<u8>> = commands
+        .iter_mut()
+        .filter(|command| command[0] == code)
+        .collect();
+    let place = random.below(alike.len() as u64) as usize;
+    faults::put(random, alike[place]);
+    commands.concat()
+}
 
 /// An accepted job with one to three damages: bytes changed, a cut, bytes appended, commands swapped, repeated or
 /// left out.

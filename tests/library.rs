@@ -1,7 +1,7 @@
 //! The proved library's calls, declared as in crates/capacity_c/include/eak_capacity.h, with the reference's answers.
 //! Assumes that libcapacity_c.a is linked.
 
-use crate::reference::{Refusal, Totals};
+use crate::reference::{Fault, Refusal, Totals};
 
 #[repr(C)]
 struct JobAnswer {
@@ -9,6 +9,14 @@ struct JobAnswer {
     number: u32,
     offset: usize,
     rows: usize,
+}
+
+#[repr(C)]
+struct FaultAnswer {
+    number: u32,
+    offset: usize,
+    command: u32,
+    operand: u32,
 }
 
 #[repr(C)]
@@ -30,6 +38,7 @@ struct SoilAnswer {
 #[link(name = "capacity_c", kind = "static")]
 extern "C" {
     fn eak_size(job: *const u8, job_bytes: usize) -> JobAnswer;
+    fn eak_fault(job: *const u8, job_bytes: usize) -> FaultAnswer;
     fn eak_run(job: *const u8, job_bytes: usize, rows: *mut i64, row_words: usize) -> JobAnswer;
     fn eak_total(rows: *const i64, row_words: usize, n: usize) -> TotalsAnswer;
     fn eak_take_down(kind: u8, value: f32) -> SoilAnswer;
@@ -47,12 +56,11 @@ fn answer<T>(
         unset,
         "refusal {number} with a result, or no refusal with an offset"
     );
-    let number = number as u8;
     if number == 0 {
         Ok(result)
     } else {
         Err(Refusal {
-            number,
+            number: number.try_into().expect("a refusal's number"),
             offset,
             rows,
         })
@@ -69,6 +77,17 @@ impl JobAnswer {
 #[inline(always)]
 pub fn size(job: &[u8]) -> Result<usize, Refusal> {
     unsafe { eak_size(job.as_ptr(), job.len()) }.result()
+}
+
+#[inline(always)]
+pub fn fault(job: &[u8]) -> Fault {
+    let found = unsafe { eak_fault(job.as_ptr(), job.len()) };
+    Fault {
+        number: found.number,
+        offset: found.offset,
+        command: found.command,
+        operand: found.operand,
+    }
 }
 
 #[inline(always)]

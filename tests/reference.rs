@@ -1,13 +1,15 @@
-//! Document 01 in plain Rust: size, run, total and take-down, written from the paper.
+//! Document 01 in plain Rust: size, run, total and take-down, written from the paper; and the operand at fault.
 //! Assumes nothing of the job's bytes, the rows or the number of rows.
 
 mod footing;
 mod members;
+mod operands;
 #[cfg(test)]
 mod tests;
 
-use footing::{Footing, Soil};
+use footing::{Footing, Soil, SoilGiven};
 use members::{Beam, Column, Detail, Joint, NoHinges, Settings, Storey, Wall, WallBase};
+use operands::Operands;
 
 /// Words of a row.
 pub const ROW: usize = 8;
@@ -53,6 +55,16 @@ impl Refusal {
     }
 }
 
+/// A refusal with the byte at its offset and, for 5, the place of the operand at fault, counted from 0 in the order of the file.
+/// All are 0 for an accepted job; the byte is 0 where the offset is the job's length, the operand in each refusal but 5.
+#[derive(Clone, Copy, Debug, Default, PartialEq, Eq)]
+pub struct Fault {
+    pub number: u32,
+    pub offset: usize,
+    pub command: u32,
+    pub operand: u32,
+}
+
 /// Rows failed and checks failed.
 #[derive(Clone, Copy, Debug, Default, PartialEq, Eq)]
 pub struct Totals {
@@ -73,6 +85,42 @@ pub fn run(job: &[u8], rows: &mut [i64]) -> Result<usize, Refusal> {
     }
     write(job, &mut rows.as_chunks_mut().0[..needed]);
     Ok(needed)
+}
+
+/// Why a job is refused, and which operand of the command is at fault.
+pub fn fault(job: &[u8]) -> Fault {
+    let Err(Refusal { number, offset, .. }) = check(job) else {
+        return Fault::default();
+    };
+    let command = job.get(offset).copied().unwrap_or(0);
+    let operand = match number {
+        5 => at_fault(command, &job[offset + 1..]).expect("an operand out of range"),
+        _ => 0,
+    };
+    Fault {
+        number: u32::from(number),
+        offset,
+        command: u32::from(command),
+        operand: operand as u32,
+    }
+}
+
+/// The place of a command's operand at fault; its operands are the first of `bytes`.
+fn at_fault(code: u8, bytes: &[u8]) -> Option<usize> {
+    let operands = &bytes[..width(code)?];
+    match code {
+        END => None,
+        SETTINGS => Settings::read(fixed(operands)).at_fault(),
+        JOINT => Joint::read(fixed(operands)).1.at_fault(),
+        COLUMN => Column::read(fixed(operands)).at_fault(),
+        BEAM => Beam::read(fixed(operands)).at_fault(),
+        NO_HINGES => NoHinges::read(fixed(operands)).at_fault(),
+        WALL_BASE => WallBase::read(fixed(operands)).at_fault(),
+        STOREY => Storey::read(fixed(operands)).at_fault(),
+        SOIL => SoilGiven::read(fixed(operands)).at_fault(),
+        FOOTING => Footing::read(fixed(operands)).at_fault(),
+        _ => Detail::read(fixed(operands)).at_fault(),
+    }
 }
 
 /// Rows failed and checks failed among the first `n` rows.
@@ -206,7 +254,7 @@ impl Given {
                 Ok(1)
             }
             SOIL => {
-                ensure(Soil::read(fixed(operands)).is_some(), 5)?;
+                ensure(SoilGiven::read(fixed(operands)).in_range(), 5)?;
                 self.soil = true;
                 Ok(0)
             }
@@ -286,7 +334,7 @@ fn write(job: &[u8], rows: &mut [[i64; ROW]]) {
                 put(base.row(&held.wall));
             }
             STOREY => put(Storey::read(fixed(operands)).row(&held.wall)),
-            SOIL => held.soil = Soil::read(fixed(operands)).unwrap_or_default(),
+            SOIL => held.soil = SoilGiven::read(fixed(operands)).soil(),
             FOOTING => {
                 let footing = Footing::read(fixed(operands));
                 put(footing.row(&held, 1));

@@ -2,6 +2,7 @@
 //! Assumes of a row's operands that they are in range and that a soil was given.
 
 use super::members::{bits, signed, within, word, Coefficient};
+use super::operands::Operands;
 use super::{take_down, Held};
 
 /// Least normal force whose eccentricities and resistance are reported.
@@ -29,19 +30,43 @@ impl Default for Soil {
     }
 }
 
-impl Soil {
-    /// The soil of six bytes; none when an operand is out of range.
-    pub fn read(b: &[u8; 6]) -> Option<Soil> {
-        let value = i64::from(take_down(b[0], f32::from_bits(bits(b, 1))).ok()?);
-        let resistance = if b[0] == 0 {
+/// The operands of a soil.
+pub struct SoilGiven {
+    kind: u8,
+    value: f32,
+    sensitive: u8,
+}
+
+impl SoilGiven {
+    pub fn read(b: &[u8; 6]) -> SoilGiven {
+        SoilGiven {
+            kind: b[0],
+            value: f32::from_bits(bits(b, 1)),
+            sensitive: b[5],
+        }
+    }
+
+    /// The soil, of operands in range.
+    pub fn soil(&self) -> Soil {
+        let value = take_down(self.kind, self.value).map_or(0, i64::from);
+        let resistance = if self.kind == 0 {
             Resistance::Granular(value)
         } else {
             Resistance::Cohesive(value)
         };
-        (b[5] <= 1).then_some(Soil {
+        Soil {
             resistance,
-            sensitive: b[5] == 1,
-        })
+            sensitive: self.sensitive == 1,
+        }
+    }
+}
+
+impl Operands for SoilGiven {
+    fn each(&self, mut test: impl FnMut(&'static str, bool) -> bool) -> bool {
+        test("kind", self.kind <= 1)
+            && test("value", true)
+            && test("sensitive", self.sensitive <= 1)
+            && test("value", take_down(self.kind, self.value).is_ok())
     }
 }
 
@@ -78,21 +103,6 @@ impl Footing {
             p: word(b, 52) as i64,
             flags: b[56],
         }
-    }
-
-    pub fn in_range(&self) -> bool {
-        let side = 500..=20_000;
-        let pairs = [self.n, self.x, self.y, self.h];
-        side.contains(&self.b)
-            && side.contains(&self.l)
-            && within(self.mr)
-            && within(self.me)
-            && pairs
-                .iter()
-                .all(|pair| within(pair.0.unsigned_abs()) && within(pair.1.unsigned_abs()))
-            && within(self.u as u64)
-            && within(self.p as u64)
-            && self.flags <= 3
     }
 
     /// Words 2 to 7 of the direction `sign`, 1 or −1.
@@ -132,5 +142,27 @@ impl Footing {
         } else {
             exceeds(3) && !(excepted && 2 * ex < self.b && 2 * ey < self.l)
         }
+    }
+}
+
+impl Operands for Footing {
+    fn each(&self, mut test: impl FnMut(&'static str, bool) -> bool) -> bool {
+        let side = 500..=20_000;
+        let size = |load: i64| within(load.unsigned_abs());
+        test("B", side.contains(&self.b))
+            && test("L", side.contains(&self.l))
+            && test("MR", within(self.mr))
+            && test("ME", within(self.me))
+            && test("NV", size(self.n.0))
+            && test("NE", size(self.n.1))
+            && test("XV", size(self.x.0))
+            && test("XE", size(self.x.1))
+            && test("YV", size(self.y.0))
+            && test("YE", size(self.y.1))
+            && test("HV", size(self.h.0))
+            && test("HE", size(self.h.1))
+            && test("U", within(self.u as u64))
+            && test("P", within(self.p as u64))
+            && test("flags", self.flags <= 3)
     }
 }

@@ -1,6 +1,8 @@
 //! The members of document 01: operands, ranges and words 2 to 7 of their rows.
 //! Assumes of a row's operands that they are in range, and of `Wall` that a wall base made it.
 
+use super::operands::Operands;
+
 /// Greatest force in newtons and greatest moment in newton metres.
 const LIMIT: u64 = 100_000_000;
 
@@ -26,12 +28,17 @@ pub fn within(value: u64) -> bool {
     value <= LIMIT
 }
 
-fn all_within(values: &[u64]) -> bool {
-    values.iter().all(|&value| within(value))
-}
-
 fn member_length(length: u64) -> bool {
     (500..=100_000).contains(&length)
+}
+
+/// The operands that a column and a beam begin with.
+fn ends(length: u64, r: &[u64; 4], test: &mut impl FnMut(&'static str, bool) -> bool) -> bool {
+    test("length", member_length(length))
+        && test("R1plus", within(r[0]))
+        && test("R2plus", within(r[1]))
+        && test("R1minus", within(r[2]))
+        && test("R2minus", within(r[3]))
 }
 
 // Settings, joints and the coefficient.
@@ -51,12 +58,14 @@ impl Settings {
             gf: half(b, 4),
         }
     }
+}
 
-    pub fn in_range(&self) -> bool {
+impl Operands for Settings {
+    fn each(&self, mut test: impl FnMut(&'static str, bool) -> bool) -> bool {
         let overstrength = 100..=200;
-        (100..=400).contains(&self.q)
-            && overstrength.contains(&self.gj)
-            && overstrength.contains(&self.gf)
+        test("q", (100..=400).contains(&self.q))
+            && test("gj", overstrength.contains(&self.gj))
+            && test("gf", overstrength.contains(&self.gf))
     }
 }
 
@@ -79,10 +88,6 @@ impl Joint {
         )
     }
 
-    pub fn in_range(&self) -> bool {
-        all_within(&[u64::from(self.rb), u64::from(self.rc), u64::from(self.eb)])
-    }
-
     fn coefficient(&self, settings: &Settings) -> Coefficient {
         Coefficient::new(
             settings.gj,
@@ -90,6 +95,15 @@ impl Joint {
             u64::from(self.eb),
             settings.q,
         )
+    }
+}
+
+impl Operands for Joint {
+    fn each(&self, mut test: impl FnMut(&'static str, bool) -> bool) -> bool {
+        test("id", true)
+            && test("RB", within(u64::from(self.rb)))
+            && test("RC", within(u64::from(self.rc)))
+            && test("EB", within(u64::from(self.eb)))
     }
 }
 
@@ -167,14 +181,18 @@ impl Column {
         }
     }
 
-    pub fn in_range(&self) -> bool {
-        member_length(self.length) && all_within(&self.r) && all_within(&[self.ve, self.vr])
-    }
-
     pub fn row(&self, q: u64) -> [i64; 6] {
         let sum = (self.r[0] + self.r[1]).max(self.r[2] + self.r[3]);
         let v = hinge_shear(1400 * sum, self.length, (q * self.ve).div_ceil(100));
         [v as i64, self.vr as i64, 0, 0, 0, i64::from(v > self.vr)]
+    }
+}
+
+impl Operands for Column {
+    fn each(&self, mut test: impl FnMut(&'static str, bool) -> bool) -> bool {
+        ends(self.length, &self.r, &mut test)
+            && test("VE", within(self.ve))
+            && test("VR", within(self.vr))
     }
 }
 
@@ -198,18 +216,21 @@ impl Beam {
         }
     }
 
-    pub fn in_range(&self) -> bool {
-        member_length(self.length)
-            && all_within(&self.r)
-            && all_within(&[self.v0.unsigned_abs(), self.ve, self.vr])
-    }
-
     pub fn row(&self, q: u64) -> [i64; 6] {
         let cap = (q * self.ve).div_ceil(120);
         let d = |sum: u64| hinge_shear(1200 * sum, self.length, cap) as i64;
         // V0 is whole: V0 + D up is V0 + (D up), V0 − D down is V0 − (D up).
         let [plus, minus] = [d(self.r[0] + self.r[1]), d(self.r[2] + self.r[3])];
         shear_row(self.v0 + plus, self.v0 - minus, self.vr as i64)
+    }
+}
+
+impl Operands for Beam {
+    fn each(&self, mut test: impl FnMut(&'static str, bool) -> bool) -> bool {
+        ends(self.length, &self.r, &mut test)
+            && test("V0", within(self.v0.unsigned_abs()))
+            && test("VE", within(self.ve))
+            && test("VR", within(self.vr))
     }
 }
 
@@ -238,12 +259,6 @@ impl NoHinges {
         }
     }
 
-    pub fn in_range(&self) -> bool {
-        member_length(self.length)
-            && all_within(&self.me)
-            && all_within(&[self.v0.unsigned_abs(), self.vr])
-    }
-
     pub fn row(&self, settings: &Settings, joints: &[Joint; 256]) -> [i64; 6] {
         let m = |end: usize| {
             joints[self.joints[end]]
@@ -252,6 +267,18 @@ impl NoHinges {
         };
         let d = (1000 * (m(0) + m(1))).div_ceil(self.length) as i64;
         shear_row(self.v0 + d, self.v0 - d, self.vr as i64)
+    }
+}
+
+impl Operands for NoHinges {
+    fn each(&self, mut test: impl FnMut(&'static str, bool) -> bool) -> bool {
+        test("length", member_length(self.length))
+            && test("joint1", true)
+            && test("joint2", true)
+            && test("ME1", within(self.me[0]))
+            && test("ME2", within(self.me[1]))
+            && test("V0", within(self.v0.unsigned_abs()))
+            && test("VR", within(self.vr))
     }
 }
 
@@ -296,13 +323,6 @@ impl WallBase {
         }
     }
 
-    pub fn in_range(&self) -> bool {
-        let side = 100..=10_000;
-        side.contains(&self.length)
-            && side.contains(&self.thickness)
-            && all_within(&[self.mr, self.me, self.ve, self.vr])
-    }
-
     pub fn wall(&self, q: u64) -> Wall {
         let a = Coefficient::new(130, self.mr, self.me, q);
         Wall {
@@ -324,6 +344,18 @@ impl WallBase {
             0,
             verdict,
         ]
+    }
+}
+
+impl Operands for WallBase {
+    fn each(&self, mut test: impl FnMut(&'static str, bool) -> bool) -> bool {
+        let side = 100..=10_000;
+        test("length", side.contains(&self.length))
+            && test("thickness", side.contains(&self.thickness))
+            && test("MR", within(self.mr))
+            && test("ME", within(self.me))
+            && test("VE", within(self.ve))
+            && test("VR", within(self.vr))
     }
 }
 
@@ -359,10 +391,6 @@ impl Storey {
         }
     }
 
-    pub fn in_range(&self) -> bool {
-        1 <= self.j && self.j <= self.j0 && all_within(&[self.me, self.ve, self.vr, self.ms])
-    }
-
     pub fn row(&self, wall: &Wall) -> [i64; 6] {
         let k = self.k();
         let v = wall
@@ -388,6 +416,19 @@ impl Storey {
     }
 }
 
+impl Operands for Storey {
+    /// 1 ≤ J ≤ J0 asks of each that it is at least 1, and of J that it does not exceed J0.
+    fn each(&self, mut test: impl FnMut(&'static str, bool) -> bool) -> bool {
+        test("ME", within(self.me))
+            && test("VE", within(self.ve))
+            && test("J", 1 <= self.j)
+            && test("J0", 1 <= self.j0)
+            && test("VR", within(self.vr))
+            && test("MS", within(self.ms))
+            && test("J", self.j <= self.j0)
+    }
+}
+
 // Details.
 
 pub struct Detail {
@@ -409,19 +450,21 @@ impl Detail {
         }
     }
 
-    pub fn in_range(&self) -> bool {
-        self.place <= 2
-            && self.xu <= 1000
-            && self.xy <= 1000
-            && (1000..=2000).contains(&self.mu)
-            && self.lap <= 1
-    }
-
     pub fn row(&self) -> [i64; 6] {
         let demand = self.xu * self.mu;
         let strength = 175 * (1000 - self.xy);
         let lapped_base = self.lap == 1 && self.place == 2;
         let verdict = i64::from(demand > strength) << 5 | i64::from(lapped_base) << 6;
         [demand as i64, strength as i64, 0, 0, 0, verdict]
+    }
+}
+
+impl Operands for Detail {
+    fn each(&self, mut test: impl FnMut(&'static str, bool) -> bool) -> bool {
+        test("place", self.place <= 2)
+            && test("xu", self.xu <= 1000)
+            && test("xy", self.xy <= 1000)
+            && test("mu", (1000..=2000).contains(&self.mu))
+            && test("lap", self.lap <= 1)
     }
 }

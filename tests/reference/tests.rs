@@ -1,6 +1,6 @@
-//! Tries the calls where a listing does not show them: short and long slices, totals, take-down.
+//! Tries the calls where a listing does not show them: short and long slices, the operand at fault, totals, take-down.
 
-use super::{run, size, take_down, total, Refusal, Totals};
+use super::{fault, run, size, take_down, total, Fault, Refusal, Totals};
 
 /// Settings 350, 140, 120, a detail that passes, one that does not with a lap at a wall base, end.
 const JOB: [u8; 26] = [
@@ -49,6 +49,153 @@ fn the_order_of_trial_at_the_limit() {
     assert_eq!(then(&JOB[..7]), refusal(8, at, 0));
     assert_eq!(then(&[8, 9, 0, 0, 0, 0, 0]), refusal(8, at, 0));
     assert_eq!(then(&[&[7][..], &[0; 24]].concat()), refusal(8, at, 0));
+}
+
+// The operand at fault.
+
+/// The widths of each command's operands, from 01 to 0A.
+const OPERANDS: [&[usize]; 10] = [
+    &[2; 3],
+    &[1, 4, 4, 4],
+    &[4; 7],
+    &[4; 8],
+    &[4, 1, 1, 4, 4, 4, 4],
+    &[4; 6],
+    &[4; 6],
+    &[1, 4, 1],
+    &[4, 4, 4, 4, 4, 4, 4, 4, 4, 4, 4, 4, 4, 4, 1],
+    &[1, 2, 2, 2, 1],
+];
+
+/// A command in range with each operand 0 where 0 is in range, else the least; `set` are the places and numbers that differ.
+fn command(code: u8, set: &[(usize, u32)]) -> Vec<u8> {
+    let least = |place| match (code, place) {
+        (1, _) => 100,
+        (3..=5, 0) | (9, 0 | 1) => 500,
+        (6, 0 | 1) => 100,
+        (7, 2 | 3) => 1,
+        (10, 3) => 1000,
+        _ => 0,
+    };
+    let mut bytes = vec![code];
+    for (place, &width) in OPERANDS[usize::from(code) - 1].iter().enumerate() {
+        let number = set
+            .iter()
+            .find(|one| one.0 == place)
+            .map_or(least(place), |one| one.1);
+        bytes.extend(&number.to_be_bytes()[4 - width..]);
+    }
+    bytes
+}
+
+/// The fault of settings in range, then these commands, then end.
+fn fault_of(commands: &[Vec<u8>]) -> Fault {
+    fault(&[command(1, &[]), commands.concat(), vec![0]].concat())
+}
+
+/// The operand at fault of one command after the settings; it is refused with 5.
+fn operand(code: u8, set: &[(usize, u32)]) -> u32 {
+    let found = fault_of(&[command(code, set)]);
+    let (number, offset, command) = (5, 7, u32::from(code));
+    let operand = found.operand;
+    assert_eq!(
+        found,
+        Fault {
+            number,
+            offset,
+            command,
+            operand
+        }
+    );
+    operand
+}
+
+#[test]
+fn a_fault_has_the_byte_at_its_offset() {
+    let at = |number, offset, command| Fault {
+        number,
+        offset,
+        command,
+        operand: 0,
+    };
+    let [base, storey, joint] = [6, 7, 2].map(|code| command(code, &[]));
+    assert_eq!(fault(&JOB), Fault::default());
+    assert_eq!(fault_of(&[base, storey.clone()]), Fault::default());
+    assert_eq!(fault(&[]), at(1, 0, 0));
+    assert_eq!(fault(&JOB[..25]), at(1, 25, 0));
+    assert_eq!(fault(&JOB[..24]), at(1, 16, 10));
+    assert_eq!(fault(&[255]), at(2, 0, 255));
+    assert_eq!(fault_of(&[vec![11]]), at(2, 7, 11));
+    assert_eq!(fault_of(&[vec![0, 255]]), at(3, 8, 255));
+    assert_eq!(fault_of(&[vec![0]]), at(3, 8, 0));
+    assert_eq!(fault(&[0, 9]), at(4, 0, 0));
+    assert_eq!(fault(&command(3, &[(6, u32::MAX)])), at(4, 0, 3));
+    assert_eq!(fault_of(&[command(1, &[(0, 0)])]), at(4, 7, 1));
+    assert_eq!(fault_of(&[storey]), at(6, 7, 7));
+    assert_eq!(fault_of(&[joint.clone(), joint]), at(7, 21, 2));
+    let many = vec![command(8, &[]); 4096];
+    assert_eq!(fault_of(&many), at(8, 28_672, 8));
+}
+
+#[test]
+fn each_operand_is_named() {
+    for code in 2..=10 {
+        for (place, &width) in OPERANDS[usize::from(code) - 1].iter().enumerate() {
+            // Above every limit, of an i32 too; as an f32 a NaN. J0 has no limit above, an id none at all.
+            let number = match (code, place) {
+                (7, 3) => 0,
+                _ => u32::MAX >> 1 >> (32 - 8 * width),
+            };
+            let id = matches!((code, place), (2, 0) | (5, 1 | 2));
+            if !id {
+                assert_eq!(operand(code, &[(place, number)]), place as u32);
+            }
+        }
+    }
+    for place in 0..3 {
+        let found = fault(&command(1, &[(place, 99)]));
+        assert_eq!((found.number, found.offset), (5, 0));
+        assert_eq!((found.command, found.operand), (1, place as u32));
+    }
+}
+
+#[test]
+fn an_id_is_never_named() {
+    let joint = command(2, &[(0, 255)]);
+    let member = command(5, &[(1, 255), (2, 255)]);
+    assert_eq!(fault_of(&[joint, member.clone()]), Fault::default());
+    assert_eq!(fault_of(&[member]).number, 6);
+    assert_eq!(operand(5, &[(1, 255), (6, u32::MAX)]), 6);
+}
+
+#[test]
+fn the_first_operand_out_of_range_is_named() {
+    assert_eq!(operand(9, &[(14, 4), (11, 1 << 31)]), 11);
+    assert_eq!(operand(9, &[(14, 4), (0, 20_001), (1, 499)]), 0);
+    assert_eq!(operand(10, &[(3, 999), (4, 2)]), 3);
+    assert_eq!(operand(6, &[(1, 99), (5, 100_000_001)]), 1);
+    let faults = [command(3, &[(6, u32::MAX)]), command(4, &[(0, 0)])];
+    assert_eq!(fault_of(&faults).operand, 6);
+}
+
+#[test]
+fn a_relation_counts_after_the_ranges() {
+    assert_eq!(operand(7, &[(2, 5), (3, 3)]), 2);
+    assert_eq!(operand(7, &[(2, 5), (3, 3), (4, u32::MAX)]), 4);
+    assert_eq!(operand(7, &[(2, 5), (3, 3), (5, 100_000_001)]), 5);
+    assert_eq!(operand(7, &[(2, 1), (3, 0)]), 3);
+    assert_eq!(operand(7, &[(2, 0), (3, 0)]), 2);
+    let [nan, infinity, three] = [0x7FC0_0000, 0x7F80_0000, 3f32.to_bits()];
+    for value in [nan, infinity, three, 0x8000_0000, 0x4000_0001] {
+        assert_eq!(operand(8, &[(1, value)]), 1);
+        assert_eq!(operand(8, &[(1, value), (2, 7)]), 2);
+        assert_eq!(operand(8, &[(0, 2), (1, value), (2, 7)]), 0);
+    }
+    assert_eq!(
+        fault_of(&[command(8, &[(0, 1), (1, three)])]),
+        Fault::default()
+    );
+    assert_eq!(operand(8, &[(0, 1), (1, 0x447A_0001)]), 1);
 }
 
 #[test]

@@ -23,14 +23,15 @@ use Rattle.members.specs.Detail.{detailRow}
 use Rattle.walls.specs.Base.{baseRow, baseRowFrom}
 use Rattle.walls.specs.Storey.{storeyRow, storeyRowFrom}
 use Rattle.footing.specs.Rows.{footingRow, baseResistance}
-use Rattle.format.specs.Number.{number, numberAfter, signed32, bits32}
-use Rattle.format.specs.Forms.{width, formInRange}
-use Rattle.format.specs.Layouts.{known, knownIn, formsOf, formsIn, widthOfAll, operandsWidth}
+use Rattle.layout.specs.Number.{number, numberAfter, signed32, bits32}
+use Rattle.layout.specs.Forms.{width, formInRange}
+use Rattle.layout.specs.Layouts.{known, knownIn, formsOf, formsIn, widthOfAll, operandsWidth}
 use Rattle.format.specs.Commands.{commandOf, inRange, allInRange, related}
-use Rattle.format.specs.Reading.{commandAt, readOperands}
-use Rattle.held.specs.Held.{next, absent, repeated}
-use Rattle.held.specs.Rows.{rowsOf, rowsWith}
-use Rattle.held.specs.Running.{joined}
+use Rattle.layout.specs.Operands.{readOperands}
+use Rattle.format.specs.Reading.{commandAt}
+use Rattle.context.specs.Context.{next, absent, repeated}
+use Rattle.rows.specs.Rows.{rowsOf, rowsWith}
+use Rattle.rows.specs.Writing.{joined}
 use Rattle.job.specs.Faults.{tooMany, misplaced, faultAt}
 use Rattle.job.specs.Placed.{placedFrom, placed, allRows}
 use Rattle.job.specs.Answers.{rowsAnswer}

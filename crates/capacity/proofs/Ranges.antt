@@ -3,7 +3,7 @@ use mathlib.Core.Path.{_≡_, refl, sym, _∙_, subst}
 use mathlib.Core.Bool.{true, false}
 use mathlib.Core.List.{List, [], _∷_}
 use mathlib.Core.Option.{some, Option·some-injective, Option·none-ne-some}
-use Prim.Native.Nat.{ℕ, zero, suc, _+_, _<_}
+use Prim.Native.Nat.{ℕ, zero, suc, _+_}
 use native.Mathlib.Decide.{ℕ-discrete}
 use lib.Dec.{lit<}
 use mir.Syntax.{w32}
@@ -11,27 +11,31 @@ use mir.Val.{SFits}
 use borrow.Author.Tests.{eq-eqb, ne-eqb}
 use Rattle.coefficient.specs.declared.Settings.{Settings}
 use Rattle.members.specs.declared.Joint.{Joint}
-use Rattle.walls.specs.declared.WallBase.{WallBase}
-use Rattle.format.specs.Forms.{width}
-use Rattle.format.specs.Layouts.{formsOf, formsIn}
-use Rattle.format.specs.Commands.{Command, finish, settings, joint, column, beam, hingeless, wallBase, storey, soil, footing, detail, commandOf, inRange}
-use Rattle.format.specs.Reading.{byteAt, operandsAt, commandAt}
-use Rattle.format.proofs.Numbers.{Bytes, signed-fits}
-use Rattle.format.proofs.KnownBytes.{each-byte, command-above}
-use Rattle.format.proofs.RoundTrip.{Fit, at}
-use Rattle.format.proofs.OperandsRead.{operands-fit}
-use Rattle.format.proofs.CommandRanges.{SettingsOperands, JointOperands, WallBaseOperands, FootingFits, settings-in-range, joint-in-range, wall-base-in-range}
-use Rattle.held.specs.Held.{Held, nothing, next, withJoint, absent}
+use Rattle.members.specs.Hingeless.{JointRange}
+use Rattle.layout.specs.Forms.{width}
+use Rattle.layout.specs.Layouts.{formsOf, formsIn}
+use Rattle.format.specs.declared.Command.{Command}
+use Rattle.format.specs.declared.Command.the-variants.{Finish as finish, Settings as settings, Joint as joint, Column as column, Beam as beam, Hingeless as hingeless, WallBase as wallBase, Storey as storey, Soil as soil, Footing as footing, Detail as detail}
+use Rattle.format.specs.Commands.{commandOf, inRange}
+use Rattle.layout.specs.Operands.{byteAt, operandsAt}
+use Rattle.format.specs.Reading.{commandAt}
+use Rattle.layout.proofs.Numbers.{Bytes, signed-fits}
+use Rattle.layout.proofs.KnownBytes.{each-byte}
+use Rattle.format.proofs.CommandBytes.{command-above}
+use Rattle.layout.proofs.OperandsRead.{Fit, at, operands-fit}
+use Rattle.format.proofs.CommandRanges.{FootingFits}
+use Rattle.context.specs.Running.{SettingsRange}
+use Rattle.context.proofs.Ranges.{settings-range, joint-range}
+use Rattle.context.specs.Context.{Context, nothing, next, withJoint, absent}
 use Rattle.job.specs.Faults.{afterCommand}
 use Rattle.job.specs.Placed.{Placed, Job, refused, accepted, before, placedFrom, placed}
 use Rattle.job.proofs.PlacedCases.{placedAt, restAfter, by-cases}
 use Rattle.job.proofs.Simulation.{faultless}
 
 -- what holds is in range
-pub record HeldRange (h : Held) : Type 0 where
-  pub settings : (s : Settings) → h .settings ≡ some s → SettingsOperands s
-  pub joints : (id : ℕ) (j : Joint) → h .joints id ≡ some j → JointOperands j
-  pub wall : (b : WallBase) → h .wall ≡ some b → WallBaseOperands b
+pub record ContextRange (h : Context) : Type 0 where
+  pub settings : (s : Settings) → h .settings ≡ some s → SettingsRange s
+  pub joints : (id : ℕ) (j : Joint) → h .joints id ≡ some j → JointRange j
 
 -- the signed operands of a command read from bytes fit an i32
 abbrev pub SignedFit : Command → Type 0
@@ -71,27 +75,26 @@ signed-read job offset b = signed-fit (byteAt job offset) (at (operandsAt job of
 
 -- ---- what holds stays in range
 
-nothing-range : HeldRange nothing
+nothing-range : ContextRange nothing
 nothing-range =
-    record { settings = λ s e. absurd (Option·none-ne-some s e); joints = λ id j e. absurd (Option·none-ne-some j e); wall = λ b e. absurd (Option·none-ne-some b e) }
+    record { settings = λ s e. absurd (Option·none-ne-some s e); joints = λ id j e. absurd (Option·none-ne-some j e) }
 
-next-range : (h : Held) (c : Command) → HeldRange h → inRange c ≡ true → HeldRange (next h c)
+next-range : (h : Context) (c : Command) → ContextRange h → inRange c ≡ true → ContextRange (next h c)
 unfolding next
 next-range h finish r i = r
 next-range h (settings s) r i =
-    record { settings = λ t e. subst SettingsOperands (Option·some-injective s t e) (settings-in-range s i); joints = r .joints; wall = r .wall }
-next-range h (joint id j) r i = record { settings = r .settings; joints = λ k x e. each k x (ℕ-discrete k id) e; wall = r .wall }
+    record { settings = λ t e. subst SettingsRange (Option·some-injective s t e) (settings-range s i); joints = r .joints }
+next-range h (joint id j) r i = record { settings = r .settings; joints = λ k x e. each k x (ℕ-discrete k id) e }
   where
-    each : (k : ℕ) (x : Joint) → Dec (k ≡ id) → withJoint id j (h .joints) k ≡ some x → JointOperands x
-    each k x (yes q) e = subst JointOperands (Option·some-injective j x (sym (rw (eq-eqb k id q) refl) ∙ e)) (joint-in-range id j i)
+    each : (k : ℕ) (x : Joint) → Dec (k ≡ id) → withJoint id j (h .joints) k ≡ some x → JointRange x
+    each k x (yes q) e = subst JointRange (Option·some-injective j x (sym (rw (eq-eqb k id q) refl) ∙ e)) (joint-range id j i)
     each k x (no q) e = r .joints k x (sym (rw (ne-eqb k id q) refl) ∙ e)
 next-range h (column c) r i = r
 next-range h (beam b) r i = r
 next-range h (hingeless id1 id2 m) r i = r
-next-range h (wallBase b) r i =
-    record { settings = r .settings; joints = r .joints; wall = λ x e. subst WallBaseOperands (Option·some-injective b x e) (wall-base-in-range b i) }
+next-range h (wallBase b) r i = record { settings = r .settings; joints = r .joints }
 next-range h (storey s) r i = r
-next-range h (soil s) r i = record { settings = r .settings; joints = r .joints; wall = r .wall }
+next-range h (soil s) r i = record { settings = r .settings; joints = r .joints }
 next-range h (footing f) r i = r
 next-range h (detail d) r i = r
 
@@ -100,8 +103,8 @@ next-range h (detail d) r i = r
 pub record Good (p : Placed) : Type 0 where
   pub range : inRange (p .command) ≡ true
   pub signed : SignedFit (p .command)
-  pub present : absent (p .held) (p .command) ≡ false
-  pub held : HeldRange (p .held)
+  pub present : absent (p .context) (p .command) ≡ false
+  pub context : ContextRange (p .context)
 
 abbrev pub AllGood : List Placed → Type 0
 AllGood [] = Unit {0}
@@ -116,7 +119,7 @@ good-in-front p (refused number offset) g r = tt
 good-in-front p (accepted ps) g r = (g, r)
 
 abbrev GoodFrom : ℕ → List ℕ → Type 0
-GoodFrom n job = (offset count : ℕ) (h : Held) → HeldRange h → GoodJob (placedFrom n job offset count h)
+GoodFrom n job = (offset count : ℕ) (h : Context) → ContextRange h → GoodJob (placedFrom n job offset count h)
 
 good-from : (n : ℕ) (job : List ℕ) → Bytes job → GoodFrom n job
 unfolding placedFrom
@@ -126,7 +129,7 @@ good-from (suc n) job b offset count h r =
     (λ l e z.
     let f = faultless job offset count h e in
     good-in-front (placedAt job offset h) (restAfter n job offset count h)
-    (record { range = f .range; signed = signed-read job offset b; present = f .present; held = r })
+    (record { range = f .range; signed = signed-read job offset b; present = f .present; context = r })
     (good-from n job b (afterCommand job offset) (count + 1) (next h (commandAt job offset)) (next-range h (commandAt job offset) r (f .range))))
 
 pub all-good : (job : List ℕ) → Bytes job → GoodJob (placed job)

@@ -2,12 +2,12 @@
 use mathlib.Core.Path.{_≡_, refl, sym, ap}
 use mathlib.Core.Bool.{true, false}
 use mathlib.Core.List.{List, _++_}
-use Prim.Native.Nat.{ℕ, _+_, _*_, _/_, _≤_, _<_}
+use Prim.Native.Nat.{ℕ, _*_, _/_, _≤_, _<_}
 use native.Mathlib.Omega.{arith}
 use borrow.Author.Tests.{le-leb, lt-leb}
 use lib.IntN.{ℤ}
 use lib.ListN.{length, drop}
-use Rattle.held.specs.Running.{joined}
+use Rattle.rows.specs.Writing.{joined}
 use Rattle.job.specs.Placed.{Placed, Job, refused, accepted, placed, allRows}
 use Rattle.job.specs.Answers.{Answer, rowsAnswer, refusedAnswer, sizeFrom, sizeOf}
 use Rattle.capacity.specs.Calls.{tooShortAnswer, runFrom, runOf, rowsFrom, rowsAfter}

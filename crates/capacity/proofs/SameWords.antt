@@ -10,7 +10,7 @@ use lib.Dec.{leb}
 use lib.IntN.{ℤ}
 use lib.ListN.{length, take, drop, length-append, length-drop}
 use lib.Seq.{take-at, drop-at, drop-append-le}
-use Rattle.held.specs.Running.{joined}
+use Rattle.rows.specs.Writing.{joined}
 use Rattle.job.specs.Placed.{Placed, Job, refused, accepted, placed, allRows}
 use Rattle.capacity.specs.Calls.{runFrom, runOf, rowsFrom, rowsAfter}
 use Rattle.capacity.proofs.Runs.{differ}

@@ -8,10 +8,10 @@ use lib.ListN.{length, length-append, length-map}
 use lib.Seq.{getD-append-add}
 use Rattle.claims.specs.declared.Row.{Row}
 use Rattle.format.specs.Commands.{byteOf}
-use Rattle.format.proofs.Numbers.{Bytes}
-use Rattle.held.specs.Rows.{rowsOf, words}
-use Rattle.held.specs.Running.{joined}
-use Rattle.held.proofs.Laws.{words-eight}
+use Rattle.layout.proofs.Numbers.{Bytes}
+use Rattle.rows.specs.Rows.{rowsOf, words}
+use Rattle.rows.specs.Writing.{joined}
+use Rattle.rows.proofs.Laws.{words-eight}
 use Rattle.job.specs.Placed.{Placed, Job, accepted, placed, rowsAt, allRows}
 use Rattle.capacity.specs.DemandThree.{Claim, claimsOf, rowRead, RowsHold, AllHold, JobHolds, DemandThree}
 use Rattle.capacity.proofs.Ranges.{AllGood, GoodJob, all-good}
@@ -66,7 +66,7 @@ all-hold : (ps : List Placed) (before after : List ℤ) (n : ℕ) → length bef
 unfolding AllHold allRows
 all-hold [] before after n e g = tt
 all-hold (p ∷ ps) before after n e g =
-    let rows = rowsOf (p .held) (p .command) in
+    let rows = rowsOf (p .context) (p .command) in
     let t = rows-true p (g .0) in
     let own = joined (rowsAt p) in
     let rest = joined (allRows ps) in

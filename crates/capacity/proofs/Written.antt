@@ -1,20 +1,21 @@
 -- The walk from the start writes the rows of an accepted job where they fit. Assumes nothing.
 use mathlib.Core.Path.{_≡_, refl, _∙_, subst}
 use mathlib.Core.List.{List, [], _∷_, _++_}
-use Prim.Native.Nat.{ℕ, _+_, _*_, _≤_}
+use Prim.Native.Nat.{ℕ, _*_, _≤_}
 use native.Mathlib.Omega.{arith}
 use native.Mathlib.Nat.{zero-add}
 use lib.IntN.{ℤ}
-use lib.ListN.{length, drop, length-append}
+use lib.ListN.{length, drop, replicate, length-append}
 use Rattle.format.specs.Commands.{byteOf}
-use Rattle.format.proofs.Numbers.{Bytes}
-use Rattle.held.specs.Rows.{rowsOf}
-use Rattle.held.specs.Running.{joined}
-use Rattle.held.proofs.Laws.{Eights, words-eight, storedAll-fits}
+use Rattle.layout.proofs.Numbers.{Bytes}
+use Rattle.context.specs.Running.{roomFor}
+use Rattle.rows.specs.Rows.{rowsOf}
+use Rattle.rows.specs.Writing.{joined}
+use Rattle.rows.proofs.Laws.{Eights, words-eight, storedAll-fits}
 use Rattle.job.specs.Placed.{Placed, Job, accepted, placed, rowsAt, allRows}
 use Rattle.job.specs.Walking.{Final, firstPlace, walkFrom}
 use Rattle.job.proofs.Simulation.{Matches}
-use Rattle.job.proofs.Begin.{noJoints, begin-matches}
+use Rattle.job.proofs.Begin.{noJoints, zero-sums, begin-matches}
 
 eights-append : (xs ys : List (List ℤ)) → Eights xs → Eights ys → Eights (xs ++ ys)
 eights-append [] ys e f = f
@@ -24,18 +25,20 @@ eights-append (x ∷ xs) ys e f = (e .0, eights-append xs ys (e .1) f)
 pub rows-eight : (ps : List Placed) → Eights (allRows ps)
 unfolding allRows
 rows-eight [] = tt
-rows-eight (p ∷ ps) = eights-append (rowsAt p) (allRows ps) (words-eight (p .offset) (byteOf (p .command)) (rowsOf (p .held) (p .command))) (rows-eight ps)
+rows-eight (p ∷ ps) = eights-append (rowsAt p) (allRows ps) (words-eight (p .offset) (byteOf (p .command)) (rowsOf (p .context) (p .command))) (rows-eight ps)
 
 -- so the words of all rows are eight times as many
 pub joined-length : (rows : List (List ℤ)) → Eights rows → length (joined rows) ≡ 8 * length rows
 joined-length [] e = refl
 joined-length (r ∷ rs) e = length-append r (joined rs) ∙ omega (arith, e .0, joined-length rs (e .1))
 
-memory-of : (j : Job) (ps : List Placed) (f : Final) (m : List ℤ) → j ≡ accepted ps → Matches j f 0 m → 8 * length (allRows ps) ≤ length m → f .memory ≡ joined (allRows ps) ++ drop (8 * length (allRows ps)) m
-memory-of j ps f m e k h =
-    let a = subst (λ (x : Job). Matches x f 0 m) e k in
+memory-of : (job : List ℕ) (j : Job) (ps : List Placed) (f : Final) (m : List ℤ) → j ≡ accepted ps → Matches job j f 0 m → 8 * length (allRows ps) ≤ length m → f .memory ≡ joined (allRows ps) ++ drop (8 * length (allRows ps)) m
+memory-of job j ps f m e k h =
+    let a = subst (λ (x : Job). Matches job x f 0 m) e k in
     a .1 ∙ storedAll-fits m 0 (allRows ps) (rows-eight ps) (omega arith) ∙ rw (zero-add (length (allRows ps)))
 
 pub walk-writes : (job : List ℕ) (m : List ℤ) → Bytes job → (ps : List Placed) → placed job ≡ accepted ps → 8 * length (allRows ps) ≤ length m →
-    walkFrom 4097 job firstPlace noJoints m .memory ≡ joined (allRows ps) ++ drop (8 * length (allRows ps)) m
-walk-writes job m b ps e h = memory-of (placed job) ps (walkFrom 4097 job firstPlace noJoints m) m e (begin-matches job m b) h
+    walkFrom (roomFor (length m)) 4097 job firstPlace (noJoints (replicate 768 0)) m .memory ≡ joined (allRows ps) ++ drop (8 * length (allRows ps)) m
+walk-writes job m b ps e h =
+    let room = roomFor (length m) in
+    memory-of job (placed job) ps (walkFrom room 4097 job firstPlace (noJoints (replicate 768 0)) m) m e (begin-matches room (replicate 768 0) (zero-sums room) job m b refl) h

@@ -7,7 +7,7 @@ use Prim.Native.Nat.{ℕ, _*_, _≤_}
 use lib.Dec.{leb}
 use lib.IntN.{ℤ}
 use lib.ListN.{length, drop}
-use Rattle.held.specs.Running.{joined}
+use Rattle.rows.specs.Writing.{joined}
 use Rattle.job.specs.Placed.{Job, Placed, refused, accepted, placed, allRows}
 use Rattle.job.specs.Answers.{Answer, rowsAnswer, refusedAnswer}
 use Rattle.capacity.specs.declared.Ran.{Ran}

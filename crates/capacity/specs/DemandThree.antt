@@ -22,8 +22,9 @@ use Rattle.walls.specs.Base.{baseClaims}
 use Rattle.walls.specs.Storey.{storeyClaims}
 use Rattle.footing.specs.declared.Footing.{Footing}
 use Rattle.footing.specs.Claimed.{footingClaims}
-use Rattle.format.specs.Commands.{Command, finish, settings, joint, column, beam, hingeless, wallBase, storey, soil, footing, detail}
-use Rattle.held.specs.Held.{Held, Ground, whenGiven}
+use Rattle.format.specs.declared.Command.{Command}
+use Rattle.format.specs.declared.Command.the-variants.{Finish as finish, Settings as settings, Joint as joint, Column as column, Beam as beam, Hingeless as hingeless, WallBase as wallBase, Storey as storey, Soil as soil, Footing as footing, Detail as detail}
+use Rattle.context.specs.Context.{Context, Ground, whenGiven}
 use Rattle.job.specs.Placed.{Placed, Job, refused, accepted, placed, rowsAt}
 
 -- what is claimed of a row, by its words 2 to 7
@@ -35,7 +36,7 @@ abbrev pub footingClaim : Settings → Footing → Ground → Bool → Claim
 footingClaim s f g minus r = pos 20000 ≤ℤ r .word2 → Hold (footingClaims s f (g .soil) (g .sensitive) minus r)
 
 -- the claims of a command, one for each of its rows, in their order
-unfoldable pub claimsWith : Held → Settings → Command → List Claim
+unfoldable pub claimsWith : Context → Settings → Command → List Claim
 claimsWith h s finish = []
 claimsWith h s (settings t) = []
 claimsWith h s (joint id j) = []
@@ -50,7 +51,7 @@ claimsWith h s (detail d) = (λ r. Hold (detailClaims d r)) ∷ []
 
 unfoldable pub claimsOf : Placed → List Claim
 unfolding claimsWith
-claimsOf p = whenGiven (p .held .settings) (λ s. claimsWith (p .held) s (p .command))
+claimsOf p = whenGiven (p .context .settings) (λ s. claimsWith (p .context) s (p .command))
 
 -- words 2 to 7 of row n, read off the slice
 abbrev pub rowRead : List ℤ → ℕ → Row

@@ -1,5 +1,6 @@
-// The calls: size, run, total and take-down. None has a `requires`. 01, "Calls".
+// The calls: size, fault, run, total and take-down. None has a `requires`. 01, "Calls".
 // 01 leaves no value of these calls free: each answer and each lent word is promised by equation.
+use job::FaultAnswer;
 use job::RowCount;
 use job::Walked;
 use soil::TakeDown;
@@ -7,12 +8,12 @@ use totals::Totals;
 ghost use mathlib.Core.Path.{_≡_};
 ghost use mathlib.Core.Bool.{true};
 ghost use lib.ListN.{length};
-ghost use Rattle.cubes.specs.Cube.{IsCubes};
+ghost use Rattle.cubes.specs.Cube.{LentCubes};
 ghost use Rattle.soil.specs.Answers.{answerOf};
 ghost use Rattle.soil.specs.Taken.{takeDown};
 ghost use Rattle.totals.specs.Answers.{totalAnswer};
 ghost use Rattle.totals.specs.Total.{totalOf};
-ghost use Rattle.job.specs.Answers.{rowCountAnswer, sizeOf};
+ghost use Rattle.job.specs.Answers.{rowCountAnswer, sizeOf, faultOf};
 ghost use Rattle.capacity.specs.Calls.{runAnswer, runOf, rowsAfter, Writes};
 ghost use Rattle.capacity.specs.DemandThree.{DemandThree};
 
@@ -33,6 +34,13 @@ pub fn size(job: &[u8]) -> RowCount
     job::size(job)
 }
 
+// The fault of a job, with the operand at fault; all 0 where it is accepted.
+pub fn fault(job: &[u8]) -> FaultAnswer
+    ensures { λ r. ⌜ r ≡ faultOf (now (job .entry)) ⌝ }
+{
+    job::fault(job)
+}
+
 // Rows failed and checks failed of the first n rows.
 pub fn total(rows: &[i64], n: usize) -> Totals
     ensures { λ r. ⌜ totalAnswer r ≡ totalOf (now (rows .entry)) n ⌝ }
@@ -47,13 +55,35 @@ pub fn take_down(kind: u8, value: f32) -> TakeDown
     soil::take_down(kind, value)
 }
 
-// The rows of a job, where it is accepted and there is room for all.
-fn write(job: &[u8], table: &[u64; 1001], rows: &mut [i64])
-    requires { ⌜ IsCubes (now table) ⌝ }
+// The rows of a job, where it is accepted and there is room for all. The cubes may be lent or not.
+fn write_with(job: &[u8], table: &[u64], rows: &mut [i64])
+    requires { ⌜ LentCubes (now table) ⌝ }
     ensures { λ r. ⌜ Writes (now (job .entry)) (now (rows .entry)) (now (rows .exit)) ⌝ }
 {
-    let mut joints = [0u32; 1024];
-    job::walk(job, job::first_place(), 4097, &mut joints, table, rows);
+    let mut given = [0u8; 256];
+    let mut sums = [0u32; 768];
+    job::walk(
+        job,
+        job::first_place(),
+        4097,
+        &mut given,
+        &mut sums,
+        table,
+        rows,
+    );
+}
+
+// The same: the table of cubes is made once for a job with storeys, and not for another.
+fn write(job: &[u8], storeys: bool, rows: &mut [i64])
+    ensures { λ r. ⌜ Writes (now (job .entry)) (now (rows .entry)) (now (rows .exit)) ⌝ }
+{
+    if storeys {
+        let table = cubes::table();
+        write_with(job, &table, rows);
+        return;
+    }
+    let none = [0u64; 1];
+    write_with(job, &none[..0], rows);
 }
 
 // The rows of a job, and their number.
@@ -62,15 +92,16 @@ pub fn run(job: &[u8], rows: &mut [i64]) -> Ran
     ensures words { λ r. ⌜ now (rows .exit) ≡ rowsAfter (now (job .entry)) (now (rows .entry)) ⌝ }
     ensures demand3 { λ r. ⌜ (runAnswer r .accepted ≡ true → DemandThree (now (job .entry)) (now (rows .exit))) ⌝ }
 {
-    let table = cubes::table();
-    let counted = job::count(job, &table);
-    match counted {
-        RowCount::Refused(number, offset) => Ran::Refused(number, offset),
-        RowCount::Rows(n) => {
+    let walk = job::pass(job);
+    let ended = walk.ended;
+    match ended {
+        Walked::Refused(number, offset, _) => Ran::Refused(number, offset),
+        Walked::Paused(_) => Ran::Refused(8, 0),
+        Walked::Finished(n) => {
             if rows.len() / 8 < n {
                 return Ran::TooShort(n);
             }
-            write(job, &table, rows);
+            write(job, walk.storeys, rows);
             Ran::Rows(n)
         }
     }

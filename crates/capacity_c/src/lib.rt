@@ -11,10 +11,10 @@ ghost use Rattle.soil.specs.Answers.{answerOf};
 ghost use Rattle.soil.specs.Taken.{takeDown};
 ghost use Rattle.totals.specs.Answers.{totalAnswer};
 ghost use Rattle.totals.specs.Total.{totalOf};
-ghost use Rattle.job.specs.Answers.{rowCountAnswer, sizeOf};
+ghost use Rattle.job.specs.Answers.{rowCountAnswer, sizeOf, faultOf};
 ghost use Rattle.capacity.specs.Calls.{runAnswer, runOf, rowsAfter};
 ghost use Rattle.capacity.specs.DemandThree.{DemandThree};
-ghost use Rattle.capacity_c.specs.Exported.{jobAnswer, totalsAnswer, soilAnswer};
+ghost use Rattle.capacity_c.specs.Exported.{jobAnswer, faultFound, totalsAnswer, soilAnswer};
 
 // The answer of size and of run.
 #[repr(C)]
@@ -41,6 +41,15 @@ pub struct SoilAnswer {
     pub number: u32,
     pub offset: u32,
     pub value: u32,
+}
+
+// The answer of fault.
+#[repr(C)]
+pub struct FaultFound {
+    pub number: u32,
+    pub offset: usize,
+    pub command: u32,
+    pub operand: u32,
 }
 
 fn counted(answer: RowCount) -> JobAnswer
@@ -140,6 +149,20 @@ pub extern "C" fn eak_size(job: &[u8]) -> JobAnswer
     counted(capacity::size(job))
 }
 
+// The fault of a job, with the operand at fault; all 0 where it is accepted.
+#[no_mangle]
+pub extern "C" fn eak_fault(job: &[u8]) -> FaultFound
+    ensures { λ r. ⌜ r ≡ faultFound (faultOf (now (job .entry))) ⌝ }
+{
+    let found = capacity::fault(job);
+    FaultFound {
+        number: found.number,
+        offset: found.offset,
+        command: found.command as u32,
+        operand: found.operand,
+    }
+}
+
 // The rows of a job, and their number.
 #[no_mangle]
 pub extern "C" fn eak_run(job: &[u8], rows: &mut [i64]) -> JobAnswer
@@ -164,4 +187,12 @@ pub extern "C" fn eak_take_down(kind: u8, value: f32) -> SoilAnswer
     ensures { λ r. ⌜ r ≡ soilAnswer (takeDown kind value) ⌝ }
 {
     taken(capacity::take_down(kind, value))
+}
+
+// The version of these calls: 10,000 times the major number, 100 times the minor one, and the patch; the header's EAK_VERSION.
+#[no_mangle]
+pub extern "C" fn eak_version() -> u32
+    ensures { λ r. ⌜ r ≡ 10000 ⌝ }
+{
+    10000
 }

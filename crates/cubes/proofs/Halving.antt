@@ -1,34 +1,57 @@
--- The search by halving: the ends bracket the least k, and each turn moves one of them to the middle.
+-- The search by halving: the least k lies from `low` to `low + length`, and each turn takes half of the length away.
 -- Assumes nothing.
 use mathlib.Core.Path.{_≡_}
-use Prim.Native.Nat.{ℕ, _+_, _*_, _^_, _≤_, _<_}
+use Prim.Native.Nat.{ℕ, _+_, _-_, _*_, _/_, _^_, _≤_, _<_}
 use native.Mathlib.Omega.{arith}
-use native.Mathlib.Numerals.{add-one}
 use Rattle.cubes.specs.Cube.{cube}
 use Rattle.cubes.specs.Root.{Least}
-use Rattle.cubes.proofs.Roots.{Short, short-to}
+use Rattle.cubes.proofs.Roots.{Short, short-to, cube-mono}
 
--- no number below `low` is enough, and `high` is
-pub record Bracket (j j0 low high : ℕ) : Type 0 where
-  pub order : low ≤ high
-  pub top : high ≤ 1000
+-- no number below `low` is enough, and `low + length` is; `rest` is what a turn leaves of the length, at least half of it
+pub record Bracket (j j0 low length rest : ℕ) : Type 0 where
+  pub top : low + length ≤ 1000
+  pub less : rest ≤ length - 1
+  pub half : length ≤ 2 * rest + 1
   pub short : Short j j0 low
-  pub enough : 10 ^ 9 * j ≤ cube high * j0
+  pub enough : 10 ^ 9 * j ≤ cube (low + length) * j0
 
--- the ends of the table
-pub start : {j j0 : ℕ} → j ≤ j0 → Bracket j j0 0 1000
-start h = record { order = omega arith; top = omega arith; short = λ i l. omega arith; enough = omega arith }
+-- the whole table
+pub start : {j j0 : ℕ} → j ≤ j0 → Bracket j j0 0 1000 511
+start h = record { top = omega arith; less = omega arith; half = omega arith; short = λ i l. omega arith; enough = omega arith }
 
--- the middle is not enough
-pub raise : {j j0 low high : ℕ} (k : ℕ) → Bracket j j0 low high → k < high → cube k * j0 < 10 ^ 9 * j → Bracket j j0 (k + 1) high
-raise {j} {j0} k b l h =
-    record { order = omega arith; top = b .top; short = rw add-one (short-to j j0 k h); enough = b .enough }
+-- the number that a turn tries: the last of those that it can take away
+abbrev pub tried : ℕ → ℕ → ℕ → ℕ
+tried low length rest = low + (length - rest) - 1
 
--- the middle is enough
-pub lower : {j j0 low high : ℕ} (k : ℕ) → Bracket j j0 low high → low ≤ k → k < high → 10 ^ 9 * j ≤ cube k * j0 → Bracket j j0 low k
-lower k b l m h = record { order = l; top = omega arith; short = b .short; enough = h }
+-- it is not enough: the low end moves behind it
+pub raise : (j j0 low length rest added : ℕ) → Bracket j j0 low length rest → 0 < length → cube (tried low length rest) * j0 < 10 ^ 9 * j → added ≡ length - rest →
+    Bracket j j0 (low + added) rest (rest / 2)
+raise j j0 low length rest added b p h e =
+    let l = b .less in
+    let same : low + added + rest ≡ low + length = omega arith in
+    record {
+      top = omega (arith, b .top);
+      less = omega arith;
+      half = omega arith;
+      short = λ i m. short-to j j0 (tried low length rest) h i (omega arith);
+      enough = rw same (b .enough);
+    }
 
--- the ends have met
-pub met : {j j0 low high : ℕ} → Bracket j j0 low high → high ≤ low → Least j j0 low
-met {low = low} {high} b h =
-    let e : low ≡ high = omega arith in record { within = omega arith; enough = rw e (b .enough); least = b .short }
+-- it is enough: the low end stays
+pub keep : (j j0 low length rest added : ℕ) → Bracket j j0 low length rest → 0 < length → 10 ^ 9 * j ≤ cube (tried low length rest) * j0 → added ≡ 0 →
+    Bracket j j0 (low + added) rest (rest / 2)
+keep j j0 low length rest added b p h e =
+    let l = b .less in
+    let half = b .half in
+    record {
+      top = omega (arith, b .top);
+      less = omega arith;
+      half = omega arith;
+      short = λ i m. b .short i (omega arith);
+      enough = omega (arith, h, cube-mono {i = tried low length rest} {k = low + added + rest} j0 (omega arith));
+    }
+
+-- nothing of the length is left
+pub met : {j j0 low length rest : ℕ} → Bracket j j0 low length rest → length ≤ 0 → Least j j0 low
+met {low = low} {length} b h =
+    let e : low + length ≡ low = omega arith in record { within = omega (arith, b .top); enough = rw e at (b .enough); least = b .short }

@@ -1,8 +1,8 @@
 // The cubes of 0 to 1,000, and the least k with k³·J0 ≥ 10⁹·J, found among them.
-// The caller makes the table once and lends it: a constant is stored anew at each use.
+// A caller with many searches makes the table once and lends it: a constant is stored anew at each use.
 ghost use mathlib.Core.Path.{_≡_};
 ghost use Prim.Native.Nat.{_≤_};
-ghost use Rattle.cubes.specs.Cube.{IsCubes};
+ghost use Rattle.cubes.specs.Cube.{cube, IsCubes, LentCubes};
 ghost use Rattle.cubes.specs.Root.{Least, leastRoot};
 
 mod entries;
@@ -14,9 +14,23 @@ pub fn table() -> [u64; 1001]
     entries::CUBES
 }
 
-// The least k with k³·j0 ≥ 10⁹·j, by halving: no number below `low` is enough, and `high` is.
-pub fn least_root(table: &[u64; 1001], j: u32, j0: u32) -> u32
-    requires table { ⌜ IsCubes (now table) ⌝ }
+// The cube of k, from the lent table, or worked out where none is lent.
+fn cube_of(lent: &[u64], k: usize) -> u64
+    requires lent { ⌜ LentCubes (now lent) ⌝ }
+    requires place { ⌜ k ≤ 1000 ⌝ }
+    ensures { λ r. ⌜ r ≡ cube k ⌝ }
+{
+    if lent.len() == 1001 {
+        return lent[k];
+    }
+    let wide = k as u64;
+    wide * wide * wide
+}
+
+// The least k with k³·j0 ≥ 10⁹·j, by halving: no number below `low` is enough, and `low + length` is. Each search takes ten turns,
+// with the lengths 1000, 511, 255, .., 1, so that each step but the first is a power of two: those are added without a branch.
+pub fn least_root(lent: &[u64], j: u32, j0: u32) -> u32
+    requires lent { ⌜ LentCubes (now lent) ⌝ }
     requires order { ⌜ j ≤ j0 ⌝ }
     ensures value { λ r. ⌜ r ≡ leastRoot j j0 ⌝ }
     ensures least { λ r. ⌜ Least j j0 r ⌝ }
@@ -24,14 +38,18 @@ pub fn least_root(table: &[u64; 1001], j: u32, j0: u32) -> u32
     let need = 1_000_000_000 * (j as u64);
     let base = j0 as u64;
     let mut low: usize = 0;
-    let mut high: usize = 1000;
-    while low < high {
-        let middle = low + (high - low) / 2;
-        if table[middle] * base < need {
-            low = middle + 1;
+    let mut length: usize = 1000;
+    let mut rest: usize = 511;
+    while 0 < length {
+        let step = length - rest;
+        let added = if cube_of(lent, low + step - 1) * base < need {
+            step
         } else {
-            high = middle;
-        }
+            0
+        };
+        low += added;
+        length = rest;
+        rest = rest / 2;
     }
     low as u32
 }

@@ -85,11 +85,6 @@ natAbs-*ℤ (pos a) (negsuc b) = natAbs-neg (pos (a * suc b))
 natAbs-*ℤ (negsuc a) (pos b) = natAbs-neg (pos (suc a * b))
 natAbs-*ℤ (negsuc a) (negsuc b) = refl
 
--- one of the two parts is 0
-pub parts-apart : (x : ℤ) → above x * below x ≡ 0
-parts-apart (pos a) = omega arith
-parts-apart (negsuc a) = omega arith
-
 -- ---- the orders and equality, from ℤ to ℕ and back
 
 pub ≤ℤ-out : {x y : ℤ} → x ≤ℤ y → above x + below y ≤ above y + below x
@@ -184,6 +179,10 @@ read-as e h = returned h ∙ e
 pub widened : {z : ℤ} → SFits w32 z → SFits w64 z
 widened {z = pos n} f = let h = f .sfits in record { sfits = omega arith }
 widened {z = negsuc n} f = let h = f .sfits in record { sfits = omega arith }
+
+pub size32 : {z : ℤ} → SFits w32 z → natAbs z < 2 ^ 32
+size32 {z = pos n} f = let h = f .sfits in omega arith
+size32 {z = negsuc n} f = let h = f .sfits in omega arith
 
 -- an operand of up to 10⁸
 pub read32 : (z : ℤ) → natAbs z ≤ 100000000 → toZ w32 (ofZ w32 z) ≡ z

@@ -1,6 +1,6 @@
 -- The two laws of each rounding of specs/Quotient.antt: n ≤ up·d < n + d and down·d ≤ n < down·d + d, over ℕ and over ℤ,
 -- and that a number between those bounds is the rounded one. Assumes nothing.
-use mathlib.Core.Path.{_≡_, refl, sym, ap}
+use mathlib.Core.Path.{_≡_, ap}
 use Prim.Native.Nat.{ℕ, suc, _+_, _-_, _*_, _/_, _≤_, _<_}
 use native.Mathlib.Omega.{arith}
 use native.Mathlib.Nat.{div-mul-le-self, lt-div-mul-add, lt-of-mul-lt-mul-right, mul-le-mul-right}
@@ -110,11 +110,3 @@ upℤ-laws n d h =
       ≤ℤ-in n p (omega (arith, upℤ-le n d h, *ℤ-law q (pos d))),
       <ℤ-in p (n +ℤ pos d) (omega (arith, upℤ-lt n d h, *ℤ-law q (pos d), +ℤ-law n (pos d))),
     )
-
--- a quotient of a whole number that is not negative is the natural one
-pub downℤ-pos : (n d : ℕ) → downℤ (pos n) d ≡ pos (down n d)
-unfolding downℤ down
-downℤ-pos n d = refl
-
-pub upℤ-pos : (n d : ℕ) → 0 < d → upℤ (pos n) d ≡ pos (up n d)
-upℤ-pos n d h = sym (upℤ-is (pos n) (pos (up n d)) d h (omega (arith, up-le n d h)) (omega (arith, up-lt n d h)))

@@ -1,21 +1,20 @@
 -- What the steps of the functions on whole + num/den come to, over plain integers. Assumes nothing.
-use mathlib.Core.Path.{_≡_, refl, ap, _∙_, subst}
-use mathlib.Core.Bool.{true, false}
-use Prim.Native.Nat.{ℕ, suc, _+_, _-_, _*_, _<_}
+use mathlib.Core.Path.{_≡_, refl}
+use Prim.Native.Nat.{ℕ, suc, _+_, _-_, _*_, _^_, _<_}
 use native.Mathlib.Omega.{arith}
 use native.Mathlib.Nat.{one-mul}
-use lib.IntN.{ℤ, pos, negsuc, negℤ, subℕ, _+ℤ_, _-ℤ_, _*ℤ_, natAbs}
-use lib.Signed.{_<ℤ_, ltZ}
+use lib.IntN.{ℤ, pos, negsuc, subℕ, _+ℤ_, _*ℤ_, natAbs}
+use lib.Signed.{_<ℤ_, nonNeg}
 use lib.Dec.{T, ltb→lt}
-use borrow.Author.Tests.{ltb-true}
 use mir.Syntax.{w64}
-use mir.Val.{SFits}
-use Rattle.exact.specs.Quotient.{upℤ, downℤ}
+use mir.Val.{SFits, Fits, toZ, ofZ}
+use mir.Facts.{toZ-ofZ}
+use Rattle.exact.specs.Quotient.{up, upℤ, downℤ}
 use Rattle.exact.specs.Fraction.{upF}
 use Rattle.exact.specs.SignedFraction.{above, below, wholeS, ratioS, _+S_, upS, downS, size}
 use Rattle.exact.specs.Sums.{SumFits}
-use Rattle.exact.proofs.Integers.{≡-in, fits-size, subℕ-law, +ℤ-law, *ℤ-law, natAbs-law, natAbs-neg, natAbs-+ℤ, natAbs-*ℤ, <ℤ-out}
-use Rattle.exact.proofs.Rounding.{upℤ-pos}
+use Rattle.exact.proofs.Integers.{≡-in, fits-size, subℕ-law, +ℤ-law, *ℤ-law, natAbs-law, natAbs-+ℤ, natAbs-*ℤ, <ℤ-out}
+use Rattle.exact.proofs.Rounding.{up-le-self}
 
 -- whole·den + num
 abbrev pub total : ℤ → ℤ → ℤ → ℤ
@@ -24,7 +23,7 @@ total whole num den = whole *ℤ den +ℤ num
 pub record Total (whole num den : ℤ) : Type 0 where
   pub product-fits : SFits w64 (whole *ℤ den)
   pub fits : SFits w64 (total whole num den)
-  pub negated-fits : SFits w64 (pos 0 -ℤ total whole num den)
+  pub within : natAbs (total whole num den) < 2 ^ 63
   pub parts : above (total whole num den) + (below whole * natAbs den + below num) ≡ below (total whole num den) + (above whole * natAbs den + above num)
 
 positive : (den : ℤ) → pos 0 <ℤ den → (0 < natAbs den) × (above den ≡ natAbs den) × (below den ≡ 0)
@@ -43,7 +42,7 @@ totals whole num den h =
     record {
       product-fits = fits-size p (omega (arith, h .fits));
       fits = fits-size (p +ℤ num) (omega (arith, h .fits));
-      negated-fits = fits-size (pos 0 -ℤ (p +ℤ num)) (omega (arith, h .fits, natAbs-+ℤ (pos 0) (negℤ (p +ℤ num)), natAbs-neg (p +ℤ num)));
+      within = omega (arith, h .fits);
       parts = parts den (d .1) (d .2);
     }
   where
@@ -56,6 +55,13 @@ totals whole num den h =
 
 pub divisor-positive : (whole num den : ℤ) → SumFits whole num den → 0 < natAbs den
 divisor-positive whole num den h = positive den (h .positive) .0
+
+-- the total as the code reads it back
+pub read-total : (whole num den : ℤ) → SFits w64 whole → SFits w64 num → SFits w64 den → SumFits whole num den →
+    toZ w64 (ofZ w64 (toZ w64 (ofZ w64 (toZ w64 (ofZ w64 whole) *ℤ toZ w64 (ofZ w64 den))) +ℤ toZ w64 (ofZ w64 num))) ≡ total whole num den
+read-total whole num den f g k h =
+    let t = totals whole num den h in
+    rw (toZ-ofZ f, toZ-ofZ g, toZ-ofZ k, toZ-ofZ (t .product-fits), toZ-ofZ (t .fits))
 
 -- the signed fraction's difference is whole·den + num
 total-is : (whole num den : ℤ) → SumFits whole num den →
@@ -70,33 +76,24 @@ up-total whole num den h = rw (total-is whole num den h, one-mul (natAbs den))
 pub down-total : (whole num den : ℤ) → SumFits whole num den → downℤ (total whole num den) (natAbs den) ≡ downS (wholeS whole +S ratioS num (natAbs den))
 down-total whole num den h = rw (total-is whole num den h, one-mul (natAbs den))
 
--- the size: minus the total where that is negative
+-- the size of the total is that of the difference
 size-of : (t : ℤ) (plus minus : ℕ) → above t + minus ≡ below t + plus → natAbs t ≡ (plus - minus) + (minus - plus)
 size-of (pos n) plus minus e = omega arith
 size-of (negsuc n) plus minus e = omega arith
 
-size-total : (whole num den : ℤ) → SumFits whole num den → upℤ (pos (natAbs (total whole num den))) (natAbs den) ≡ pos (upF (size (wholeS whole +S ratioS num (natAbs den))))
+pub size-total : (whole num den : ℤ) → SumFits whole num den → up (natAbs (total whole num den)) (natAbs den) ≡ upF (size (wholeS whole +S ratioS num (natAbs den)))
 size-total whole num den h =
     let s = wholeS whole +S ratioS num (natAbs den) in
     let e : natAbs (total whole num den) ≡ (s .plus - s .minus) + (s .minus - s .plus) =
     size-of (total whole num den) (s .plus) (s .minus) (omega (arith, totals whole num den h .parts)) in
-    upℤ-pos (natAbs (total whole num den)) (natAbs den) (divisor-positive whole num den h) ∙ rw (e, one-mul (natAbs den))
+    rw (e, one-mul (natAbs den))
 
-pub size-below : (whole num den : ℤ) → SumFits whole num den → ltZ (total whole num den) (pos 0) ≡ true →
-    upℤ (pos 0 -ℤ total whole num den) (natAbs den) ≡ pos (upF (size (wholeS whole +S ratioS num (natAbs den))))
-size-below whole num den h k = ap (λ z. upℤ z (natAbs den)) (negated (total whole num den) k) ∙ size-total whole num den h
-  where
-    none : (n : ℕ) → n < 0 → ⊥
-    none n h = omega arith
+-- it fits an i64
+pub size-fits : (whole num den : ℤ) → SumFits whole num den → up (natAbs (total whole num den)) (natAbs den) < 2 ^ 63
+size-fits whole num den h =
+    omega (arith, totals whole num den h .within, up-le-self (natAbs (total whole num den)) (natAbs den) (divisor-positive whole num den h))
 
-    negated : (t : ℤ) → ltZ t (pos 0) ≡ true → pos 0 -ℤ t ≡ pos (natAbs t)
-    negated (pos n) k = absurd (none n (ltb-true n 0 k))
-    negated (negsuc n) k = ap pos (omega arith)
-
-pub size-from : (whole num den : ℤ) → SumFits whole num den → ltZ (total whole num den) (pos 0) ≡ false →
-    upℤ (total whole num den) (natAbs den) ≡ pos (upF (size (wholeS whole +S ratioS num (natAbs den))))
-size-from whole num den h k = ap (λ z. upℤ z (natAbs den)) (kept (total whole num den) k) ∙ size-total whole num den h
-  where
-    kept : (t : ℤ) → ltZ t (pos 0) ≡ false → t ≡ pos (natAbs t)
-    kept (pos n) k = refl
-    kept (negsuc n) k = absurd (subst T k tt)
+-- the denominator as an unsigned number
+pub denominator : (den : ℤ) → SFits w64 den → pos 0 <ℤ den → T (nonNeg den) × Fits w64 (natAbs den)
+denominator (pos b) f h = (tt, record { fits = omega (arith, f .sfits) })
+denominator (negsuc b) f h = absurd (h .lt)

@@ -42,6 +42,12 @@ pub action-is : (minus : Bool) (n d : ℕ) (v e : ℤ) → wholeS v +S ratioS (t
 action-is false n d v e = rw (above-scaled n e, below-scaled n e)
 action-is true n d v e = rw (above-neg (pos n *ℤ e), below-neg (pos n *ℤ e), above-scaled n e, below-scaled n e)
 
+pub turned-plus : (minus : Bool) (z : ℤ) → minus ≡ false → turned minus z ≡ z
+turned-plus minus z e = rw e
+
+pub turned-minus : (minus : Bool) (z : ℤ) → minus ≡ true → turned minus z ≡ negℤ z
+turned-minus minus z e = rw e
+
 natAbs-turned : (minus : Bool) (z : ℤ) → natAbs (turned minus z) ≡ natAbs z
 natAbs-turned false z = refl
 natAbs-turned true z = natAbs-neg z

@@ -2,7 +2,7 @@
 // 01, "Soil and footing" and "Rows and verdict bits". What demand 3 claims of the row is in specs/Claimed.antt.
 ghost use mathlib.Core.Path.{_≡_};
 ghost use mathlib.Core.Bool.{_&&_};
-ghost use Prim.Native.Nat.{_-_, _*_, _≤_, _<_, min};
+ghost use Prim.Native.Nat.{_-_, _*_, _≤_, _<_};
 ghost use lib.Dec.{ltb};
 ghost use lib.IntN.{pos, natAbs, _*ℤ_};
 ghost use Rattle.exact.specs.Fraction.{upF};
@@ -39,8 +39,8 @@ pub struct Footing {
     pub flags: u32,
 }
 
-// a, with g = gf, of the element above.
-fn footing_coefficient(settings: Settings, f: Footing) -> Quotient
+// a, with g = gf, of the element above: one for both rows.
+pub fn footing_coefficient(settings: Settings, f: Footing) -> Quotient
     requires { ⌜ FootingRange settings f ⌝ }
     ensures { λ r. ⌜ fraction r ≡ footingCoefficient settings f ⌝ }
 {
@@ -54,19 +54,12 @@ fn footing_coefficient(settings: Settings, f: Footing) -> Quotient
 
 // ---- the actions V ± a·E
 
-// The same number in 64 bits.
-fn long(x: i32) -> i64
-    ensures { λ r. ⌜ r ≡ x ⌝ }
-{
-    x as i64
-}
-
 // ± a·E over the denominator of a.
 fn seismic_part(a: Quotient, e: i32, minus: bool) -> i64
     requires { ⌜ Capped a ⌝ ∗ ⌜ natAbs e ≤ 100000000 ⌝ }
     ensures { λ r. ⌜ r ≡ turned minus (pos (a .num) *ℤ e) ⌝ }
 {
-    let part = claims::word(a.num) * long(e);
+    let part = claims::word(a.num) * exact::long(e);
     if minus { 0 - part } else { part }
 }
 
@@ -75,7 +68,11 @@ fn action_down(a: Quotient, v: i32, e: i32, minus: bool) -> i64
     requires { ⌜ ActionRange a v e ⌝ }
     ensures { λ r. ⌜ r ≡ downS (action minus (fraction a) v e) ⌝ }
 {
-    exact::sum_down(long(v), seismic_part(a, e, minus), claims::word(a.den))
+    exact::sum_down(
+        exact::long(v),
+        seismic_part(a, e, minus),
+        claims::word(a.den),
+    )
 }
 
 // The size of V ± a·E without its sign, up.
@@ -83,7 +80,11 @@ fn action_size(a: Quotient, v: i32, e: i32, minus: bool) -> u64
     requires { ⌜ ActionRange a v e ⌝ }
     ensures { λ r. ⌜ r ≡ upF (size (action minus (fraction a) v e)) ⌝ }
 {
-    exact::size_up(long(v), seismic_part(a, e, minus), claims::word(a.den)) as u64
+    exact::size_up(
+        exact::long(v),
+        seismic_part(a, e, minus),
+        claims::word(a.den),
+    ) as u64
 }
 
 // 1000 times the size of V ± a·E over N, up.
@@ -102,13 +103,6 @@ fn excess(x: u64, y: u64) -> u64
     ensures { λ r. ⌜ r ≡ x - y ⌝ }
 {
     if y < x { x - y } else { 0 }
-}
-
-// The smaller of two numbers.
-fn smaller(x: u64, y: u64) -> u64
-    ensures { λ r. ⌜ r ≡ min x y ⌝ }
-{
-    if x <= y { x } else { y }
 }
 
 // A: both sides less twice their eccentricities.
@@ -131,7 +125,7 @@ fn base_resistance(soil: Soil, area: u64, n: u64, uplift: u32) -> u64
         }
         Soil::Cohesive(x) => {
             let s = soil::cohesion(x);
-            smaller(area * (s as u64) / 1_000_000, 2 * n / 5)
+            exact::smaller(area * (s as u64) / 1_000_000, 2 * n / 5)
         }
     }
 }
@@ -228,23 +222,23 @@ fn heavy_row(
 {
     let r = sliding_resistance(f, soil, ex, ey, n);
     let off_centre = eccentric(settings.behaviour, f, a, sensitive, ex, ey);
-    let verdict = claims::failed_bit(4, off_centre) + claims::failed_bit(8, h > r);
-    Row {
-        word2: claims::word(n),
-        word3: claims::word(ex),
-        word4: claims::word(ey),
-        word5: claims::word(h),
-        word6: claims::word(r),
-        verdict: claims::word(verdict),
-    }
+    let verdict = claims::verdict_of(4, off_centre, 8, h > r);
+    claims::packed(n, ex, ey, h, r, verdict)
 }
 
-// The row of the direction with sign +, or with sign − where `minus`.
-pub fn footing_row(settings: Settings, f: Footing, soil: Soil, sensitive: bool, minus: bool) -> Row
-    requires { ⌜ FootingRange settings f ⌝ }
+// The row of the direction with sign +, or with sign − where `minus`, from the footing's coefficient.
+pub fn footing_row(
+    settings: Settings,
+    f: Footing,
+    soil: Soil,
+    sensitive: bool,
+    a: Quotient,
+    minus: bool,
+) -> Row
+    requires operands { ⌜ FootingRange settings f ⌝ }
+    requires coefficient { ⌜ fraction a ≡ footingCoefficient settings f ⌝ }
     ensures { λ r. ⌜ r ≡ footingRow settings f soil sensitive minus ⌝ }
 {
-    let a = footing_coefficient(settings, f);
     let n = action_down(a, f.nv, f.ne, minus);
     let h = action_size(a, f.hv, f.he, minus);
     if LEAST_NORMAL <= n {

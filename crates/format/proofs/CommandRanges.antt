@@ -2,7 +2,7 @@
 -- of a command's values. Assumes nothing.
 use mathlib.Core.Bool.{true}
 use mathlib.Core.Path.{_≡_}
-use Prim.Native.Nat.{ℕ, _≤_, _<_}
+use Prim.Native.Nat.{ℕ, _≤_}
 use lib.Dec.{leb, lit<}
 use lib.IntN.{ℤ, natAbs}
 use lib.ListN.{length}
@@ -20,12 +20,12 @@ use Rattle.walls.specs.declared.WallBase.{WallBase}
 use Rattle.walls.specs.declared.Storey.{Storey}
 use Rattle.footing.specs.declared.Footing.{Footing}
 use Rattle.soil.specs.Reading.{soilAllowed}
-use Rattle.format.specs.Number.{signed32}
-use Rattle.format.specs.Forms.{formInRange}
-use Rattle.format.specs.Layouts.{formsOf, formsIn}
+use Rattle.layout.specs.Number.{signed32}
+use Rattle.layout.specs.Forms.{formInRange}
+use Rattle.layout.specs.Layouts.{formsOf, formsIn}
 use Rattle.format.specs.Commands.{SoilGiven, settings, joint, column, beam, hingeless, wallBase, storey, soil, footing, detail, operandsOf, commandOf, related, inRange, settingsOf, jointOf, columnOf, beamOf, hingelessOf, wallBaseOf, storeyOf, soilGivenOf, footingOf, detailOf}
-use Rattle.format.proofs.Numbers.{signed-of-bits}
-use Rattle.format.proofs.RoundTrip.{at}
+use Rattle.layout.proofs.Numbers.{signed-of-bits}
+use Rattle.layout.proofs.OperandsRead.{at}
 use Rattle.format.proofs.RangeTest.{and-first, and-second, EachIn, values-each, values-related}
 
 -- ---- the ends of a range

@@ -1,23 +1,20 @@
--- The command at an offset of a job: it depends on its own operands alone, each of them stands within it, and its range test is
--- that of its operands. Assumes nothing.
-use mathlib.Core.Bool.{true, false}
+-- The command at an offset of a job depends on its own operands alone, may be read operand by operand, and has the byte that stands
+-- there. Assumes nothing.
 use mathlib.Core.List.{List}
+use mathlib.Core.Bool.{true}
 use mathlib.Core.Path.{_≡_, refl, sym, _∙_}
-use Prim.Native.Nat.{ℕ, _+_, _≤_, _<_}
-use native.Mathlib.Omega.{arith}
+use Prim.Native.Nat.{ℕ, _+_, _<_}
 use lib.Dec.{lit<}
-use lib.ListN.{length, getD}
-use Rattle.format.specs.declared.Form.the-variants.{Id}
-use Rattle.format.specs.Number.{InJob}
-use Rattle.format.specs.Forms.{width, formInRange}
-use Rattle.format.specs.Layouts.{formsOf, formsIn, operandsWidth}
-use Rattle.format.specs.Commands.{commandOf, related, inRange}
-use Rattle.format.specs.Reading.{byteAt, operandsAt, commandAt}
-use Rattle.format.proofs.Numbers.{Bytes}
-use Rattle.format.proofs.KnownBytes.{each-byte, command-above}
-use Rattle.format.proofs.RoundTrip.{at}
-use Rattle.format.proofs.RangeTest.{EachIn, in-range-from, in-range-fails, in-range-each, in-range-related}
-use Rattle.format.proofs.OperandsRead.{offsetOf, offset-in-command, width-is, operands-length, operands-fit}
+use lib.ListN.{length}
+use Rattle.layout.specs.Layouts.{known, formsOf, formsIn}
+use Rattle.format.specs.Commands.{byteOf, commandOf}
+use Rattle.layout.specs.Operands.{operand, byteAt, operandsAt}
+use Rattle.format.specs.Reading.{commandAt}
+use Rattle.layout.proofs.KnownBytes.{each-byte, known-most}
+use Rattle.format.proofs.CommandBytes.{command-above}
+use Rattle.format.proofs.RoundTrip.{byte-back}
+use Rattle.layout.proofs.OperandsRead.{at}
+use Rattle.layout.proofs.OperandsRead.{operand-at}
 
 -- v and w agree at the operands of a command
 abbrev pub Same : ℕ → (ℕ → ℕ) → (ℕ → ℕ) → Type 0
@@ -65,26 +62,11 @@ module _ (job : List ℕ) (start : ℕ) where
   unfolding commandAt
   command-read v h = command-same (byteAt job start) v (at (operandsAt job start)) h
 
-  -- operand i of a command that is not cut short
-  pub operand-in-job : start + 1 + operandsWidth (byteAt job start) ≤ length job → (i : ℕ) → i < length (formsOf (byteAt job start)) → InJob job (start + 1 + offsetOf (formsOf (byteAt job start)) i) (width (getD (formsOf (byteAt job start)) i Id))
-  operand-in-job h i l =
-      record {
-        inside = omega (arith, offset-in-command (byteAt job start) i l);
-        bytes = width-is (getD (formsOf (byteAt job start)) i Id);
-      }
+  -- read operand by operand, each at its offset
+  pub command-at-offset : commandOf (byteAt job start) (operand (byteAt job start) job (start + 1)) ≡ commandAt job start
+  command-at-offset = command-read (operand (byteAt job start) job (start + 1)) (operand-at (byteAt job start) job (start + 1))
 
-  pub command-in-range : Bytes job → EachIn (byteAt job start) (at (operandsAt job start)) → inRange (commandAt job start) ≡ related (commandAt job start)
+  -- its byte is that of the command
+  pub byte-read : known (byteAt job start) ≡ true → byteOf (commandAt job start) ≡ byteAt job start
   unfolding commandAt
-  command-in-range b h = in-range-from (byteAt job start) (operandsAt job start) (operands-length job start) (operands-fit job start b) h
-
-  pub command-out-of-range : Bytes job → (i : ℕ) → i < length (formsOf (byteAt job start)) → formInRange (getD (formsOf (byteAt job start)) i Id) (at (operandsAt job start) i) ≡ false → inRange (commandAt job start) ≡ false
-  unfolding commandAt
-  command-out-of-range b i l h = in-range-fails (byteAt job start) (operandsAt job start) (operands-length job start) (operands-fit job start b) i l h
-
-  pub command-each : Bytes job → inRange (commandAt job start) ≡ true → EachIn (byteAt job start) (at (operandsAt job start))
-  unfolding commandAt
-  command-each b h = in-range-each (byteAt job start) (operandsAt job start) (operands-length job start) (operands-fit job start b) h
-
-  pub command-related : Bytes job → inRange (commandAt job start) ≡ true → related (commandAt job start) ≡ true
-  unfolding commandAt
-  command-related b h = in-range-related (byteAt job start) (operandsAt job start) (operands-length job start) (operands-fit job start b) h
+  byte-read k = byte-back (byteAt job start) (at (operandsAt job start)) (known-most (byteAt job start) k)

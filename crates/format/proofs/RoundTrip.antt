@@ -1,24 +1,17 @@
 -- A command made of operands has those operands and its byte: reading loses nothing. Assumes nothing.
 use mathlib.Core.List.{List, [], _∷_}
 use mathlib.Core.Path.{_≡_, refl, ap, subst}
-use Prim.Native.Nat.{ℕ, zero, suc, _^_, _≤_, _<_}
+use Prim.Native.Nat.{ℕ, zero, suc, _≤_, _<_}
 use native.Mathlib.Omega.{arith}
 use lib.Dec.{lit<}
-use lib.ListN.{length, getD}
-use Rattle.format.specs.declared.Form.the-variants.{Id}
-use Rattle.format.specs.Forms.{width}
-use Rattle.format.specs.Layouts.{formsOf, formsIn}
+use lib.ListN.{length}
+use Rattle.layout.specs.Forms.{width}
+use Rattle.layout.specs.Layouts.{formsOf, formsIn}
 use Rattle.format.specs.Commands.{byteOf, operandsOf, commandOf}
-use Rattle.format.proofs.Numbers.{bits-of-signed}
-use Rattle.format.proofs.KnownBytes.{each-byte, forms-above, command-above}
-
--- the values of a list by place
-abbrev pub at : List ℕ → ℕ → ℕ
-at vs i = getD vs i 0
-
--- each value fits the width of its form
-abbrev pub Fit : ℕ → (ℕ → ℕ) → Type 0
-Fit byte v = (i : ℕ) → i < length (formsOf byte) → v i < 256 ^ width (getD (formsOf byte) i Id)
+use Rattle.layout.proofs.Numbers.{bits-of-signed}
+use Rattle.layout.proofs.OperandsRead.{at, Fit}
+use Rattle.layout.proofs.KnownBytes.{each-byte, forms-above}
+use Rattle.format.proofs.CommandBytes.{command-above}
 
 firsts : ℕ → (ℕ → ℕ) → List ℕ
 firsts zero v = []

@@ -1,9 +1,10 @@
--- The commands of a job, with named operands; their order in the file; the range test, which is a test of a command's values.
--- 01, "Job commands".
+-- The commands of a job, with named operands; their order in the file; the range test, which is a test of a command's values; and
+-- the operand at fault. 01, "Job commands". The type itself is the code's (src/lib.rt).
 use mathlib.Core.Bool.{Bool, true, false, _&&_, cond}
 use mathlib.Core.List.{List, [], _∷_}
-use Prim.Native.Nat.{ℕ}
-use lib.Dec.{eqb, leb}
+use Prim.Native.Nat.{ℕ, suc}
+use lib.Dec.{eqb, leb, ltb}
+use lib.ListN.{length}
 use Rattle.soil.specs.Reading.{soilAllowed}
 use Rattle.coefficient.specs.declared.Settings.{Settings}
 use Rattle.members.specs.declared.Column.{Column}
@@ -14,31 +15,13 @@ use Rattle.members.specs.declared.Detail.{Detail}
 use Rattle.walls.specs.declared.WallBase.{WallBase}
 use Rattle.walls.specs.declared.Storey.{Storey}
 use Rattle.footing.specs.declared.Footing.{Footing}
-use Rattle.format.specs.declared.Form.{Form}
-use Rattle.format.specs.Number.{signed32, bits32}
-use Rattle.format.specs.Forms.{formInRange}
-use Rattle.format.specs.Layouts.{formsOf}
-
--- operands of 08: kind 0 granular, 1 cohesive; the 32 bits of the value; sensitive 0 or 1
-pub record SoilGiven : Type 0 where
-  pub kind : ℕ
-  pub value : ℕ
-  pub sensitive : ℕ
-
-pub data Command : Type 0 where
-  finish : Command
-  settings : Settings → Command
-  -- a joint under its id
-  joint : ℕ → Joint → Command
-  column : Column → Command
-  beam : Beam → Command
-  -- a member without hinges between two joints, by their ids
-  hingeless : ℕ → ℕ → Hingeless → Command
-  wallBase : WallBase → Command
-  storey : Storey → Command
-  soil : SoilGiven → Command
-  footing : Footing → Command
-  detail : Detail → Command
+use Rattle.layout.specs.declared.Form.{Form}
+pub use Rattle.format.specs.declared.SoilGiven.{SoilGiven}
+pub use Rattle.format.specs.declared.Command.{Command}
+pub use Rattle.format.specs.declared.Command.the-variants.{Finish as finish, Settings as settings, Joint as joint, Column as column, Beam as beam, Hingeless as hingeless, WallBase as wallBase, Storey as storey, Soil as soil, Footing as footing, Detail as detail}
+use Rattle.layout.specs.Number.{signed32, bits32}
+use Rattle.layout.specs.Forms.{formInRange}
+use Rattle.layout.specs.Layouts.{formsOf}
 
 abbrev pub byteOf : Command → ℕ
 byteOf finish = 0
@@ -157,3 +140,23 @@ allInRange (f ∷ fs) (v ∷ vs) = formInRange f v && allInRange fs vs
 unfoldable pub inRange : Command → Bool
 unfolding allInRange formsOf related
 inRange c = allInRange (formsOf (byteOf c)) (operandsOf c) && related c
+
+-- ---- the operand at fault of a command that is out of range
+
+-- the first operand out of the range of its form, counted from 0; how many there are where none is
+unfoldable pub firstOutside : List Form → List ℕ → ℕ
+unfolding formInRange
+firstOutside [] vs = 0
+firstOutside (f ∷ fs) [] = 0
+firstOutside (f ∷ fs) (v ∷ vs) = cond (formInRange f v) (suc (firstOutside fs vs)) 0
+
+-- the operand that a relation names, by the command's byte: J of a storey, the value of a soil
+unfoldable pub relationNames : ℕ → ℕ
+relationNames byte = cond (eqb byte 7) 2 (cond (eqb byte 8) 1 0)
+
+-- first the operands by their own ranges, in order; then, where all are in range, the relation
+unfoldable pub operandAtFault : Command → ℕ
+unfolding formsOf firstOutside
+operandAtFault c =
+    let first = firstOutside (formsOf (byteOf c)) (operandsOf c) in
+    cond (ltb first (length (formsOf (byteOf c)))) first (relationNames (byteOf c))

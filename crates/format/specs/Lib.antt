@@ -1,6 +1,3 @@
--- The format of a job's commands. 01, "Job commands". Assumes nothing.
-pub mod Number
-pub mod Forms
-pub mod Layouts
+-- The commands of a job. 01, "Job commands". Assumes nothing.
 pub mod Commands
 pub mod Reading

@@ -1,5 +1,4 @@
-// The format of a job's commands: the forms of operands with their widths and ranges, the layout of each command, reading
-// numbers, and the commands' values from their operands. 01, "Job commands".
+// The commands of a job: one value with its operands, read at an offset; the range test of its values. 01, "Job commands".
 use coefficient::Settings;
 use footing::Footing;
 use members::Beam;
@@ -14,498 +13,202 @@ use quantity::Moment;
 use walls::Storey;
 use walls::WallBase;
 ghost use mathlib.Core.Path.{_≡_};
-ghost use Prim.Native.Nat.{_+_, _≤_, _<_};
-ghost use lib.ListN.{length, getD, take, drop};
+ghost use Prim.Native.Nat.{_+_, _≤_};
+ghost use lib.ListN.{length};
 ghost use Rattle.soil.specs.Reading.{soilAllowed};
-ghost use Rattle.format.specs.Number.{number as numberOf, signed32, InJob, ByteAt};
-ghost use Rattle.format.specs.Forms.{width, formInRange};
-ghost use Rattle.format.specs.Layouts.{known as knownByte, formsOf, operandsWidth};
-ghost use Rattle.format.specs.Commands.{commandOf, related as relatedIn, settingsOf, jointOf, columnOf, beamOf, hingelessOf, wallBaseOf, storeyOf, footingOf, detailOf};
+ghost use Rattle.layout.specs.Layouts.{operandsWidth};
+ghost use Rattle.layout.specs.Operands.{operand, byteAt};
+ghost use Rattle.format.specs.Commands.{inRange, relationNames, settingsOf, jointOf, columnOf, beamOf, hingelessOf, wallBaseOf, storeyOf, soilGivenOf, footingOf, detailOf};
+ghost use Rattle.format.specs.Reading.{commandAt};
 
-// The forms of operands.
-pub enum Form {
-    Id,
-    Behaviour,
-    Overstrength,
-    MemberLength,
-    Moment,
-    Force,
-    SignedMoment,
-    SignedForce,
-    WallLength,
-    Inertia,
-    SoilKind,
-    SoilValue,
-    YesNo,
-    Side,
-    FootingFlags,
-    Place,
-    Depth,
-    Ductility,
+// A soil as it is given: kind 0 granular, 1 cohesive; the 32 bits of the value; sensitive 0 or 1.
+pub struct SoilGiven {
+    pub kind: u32,
+    pub value: u32,
+    pub sensitive: u32,
 }
 
-// Whether the byte is that of a command.
-pub fn known(command: u8) -> bool
-    ensures { λ r. ⌜ r ≡ knownByte command ⌝ }
-{
-    command <= 10
+// A command with its operands; a joint under its id, a member without hinges between two joints, by their ids.
+pub enum Command {
+    Finish,
+    Settings(Settings),
+    Joint(u8, Joint),
+    Column(Column),
+    Beam(Beam),
+    Hingeless(u8, u8, Hingeless),
+    WallBase(WallBase),
+    Storey(Storey),
+    Soil(SoilGiven),
+    Footing(Footing),
+    Detail(Detail),
 }
 
-pub fn operand_count(command: u8) -> usize
-    ensures { λ r. ⌜ r ≡ length (formsOf command) ⌝ }
-{
-    match command {
-        1 => 3,
-        2 => 4,
-        3 => 7,
-        4 => 8,
-        5 => 7,
-        6 => 6,
-        7 => 6,
-        8 => 3,
-        9 => 15,
-        10 => 5,
-        _ => 0,
-    }
-}
+// ---- the commands from their operands, which start at an offset
 
-// The bytes of a command's operands.
-pub fn operands_width(command: u8) -> usize
-    ensures { λ r. ⌜ r ≡ operandsWidth command ⌝ }
-{
-    match command {
-        1 => 6,
-        2 => 13,
-        3 => 28,
-        4 => 32,
-        5 => 22,
-        6 => 24,
-        7 => 24,
-        8 => 6,
-        9 => 57,
-        10 => 8,
-        _ => 0,
-    }
-}
-
-// ---- the layouts: the form of an operand by its place, counted from 0; past the last, an id
-
-// q, gj, gf
-fn settings_form(place: usize) -> Form
-    ensures { λ r. ⌜ r ≡ getD (formsOf 1) place Form.Id ⌝ }
-{
-    match place {
-        0 => Form::Behaviour,
-        1 => Form::Overstrength,
-        2 => Form::Overstrength,
-        _ => Form::Id,
-    }
-}
-
-// id; RB, RC, EB
-fn joint_form(place: usize) -> Form
-    ensures { λ r. ⌜ r ≡ getD (formsOf 2) place Form.Id ⌝ }
-{
-    match place {
-        0 => Form::Id,
-        1 => Form::Moment,
-        2 => Form::Moment,
-        3 => Form::Moment,
-        _ => Form::Id,
-    }
-}
-
-// length; R1, R2 plus, R1, R2 minus; VE; VR
-fn column_form(place: usize) -> Form
-    ensures { λ r. ⌜ r ≡ getD (formsOf 3) place Form.Id ⌝ }
-{
-    match place {
-        0 => Form::MemberLength,
-        1 => Form::Moment,
-        2 => Form::Moment,
-        3 => Form::Moment,
-        4 => Form::Moment,
-        5 => Form::Force,
-        6 => Form::Force,
-        _ => Form::Id,
-    }
-}
-
-// length; R1, R2 plus, R1, R2 minus; V0; VE; VR
-fn beam_form(place: usize) -> Form
-    ensures { λ r. ⌜ r ≡ getD (formsOf 4) place Form.Id ⌝ }
-{
-    match place {
-        0 => Form::MemberLength,
-        1 => Form::Moment,
-        2 => Form::Moment,
-        3 => Form::Moment,
-        4 => Form::Moment,
-        5 => Form::SignedForce,
-        6 => Form::Force,
-        7 => Form::Force,
-        _ => Form::Id,
-    }
-}
-
-// length; two joint ids; ME1, ME2; V0; VR
-fn hingeless_form(place: usize) -> Form
-    ensures { λ r. ⌜ r ≡ getD (formsOf 5) place Form.Id ⌝ }
-{
-    match place {
-        0 => Form::MemberLength,
-        1 => Form::Id,
-        2 => Form::Id,
-        3 => Form::Moment,
-        4 => Form::Moment,
-        5 => Form::SignedForce,
-        6 => Form::Force,
-        _ => Form::Id,
-    }
-}
-
-// length, thickness; MR, ME, VE, VR
-fn wall_base_form(place: usize) -> Form
-    ensures { λ r. ⌜ r ≡ getD (formsOf 6) place Form.Id ⌝ }
-{
-    match place {
-        0 => Form::WallLength,
-        1 => Form::WallLength,
-        2 => Form::Moment,
-        3 => Form::Moment,
-        4 => Form::Force,
-        5 => Form::Force,
-        _ => Form::Id,
-    }
-}
-
-// ME, VE, J, J0, VR, MS
-fn storey_form(place: usize) -> Form
-    ensures { λ r. ⌜ r ≡ getD (formsOf 7) place Form.Id ⌝ }
-{
-    match place {
-        0 => Form::Moment,
-        1 => Form::Force,
-        2 => Form::Inertia,
-        3 => Form::Inertia,
-        4 => Form::Force,
-        5 => Form::Moment,
-        _ => Form::Id,
-    }
-}
-
-// kind; value; sensitive
-fn soil_form(place: usize) -> Form
-    ensures { λ r. ⌜ r ≡ getD (formsOf 8) place Form.Id ⌝ }
-{
-    match place {
-        0 => Form::SoilKind,
-        1 => Form::SoilValue,
-        2 => Form::YesNo,
-        _ => Form::Id,
-    }
-}
-
-// B, L; MR, ME; NV, NE, XV, XE, YV, YE, HV, HE; U, P; flags
-fn footing_form(place: usize) -> Form
-    ensures { λ r. ⌜ r ≡ getD (formsOf 9) place Form.Id ⌝ }
-{
-    match place {
-        0 => Form::Side,
-        1 => Form::Side,
-        2 => Form::Moment,
-        3 => Form::Moment,
-        4 => Form::SignedForce,
-        5 => Form::SignedForce,
-        6 => Form::SignedMoment,
-        7 => Form::SignedMoment,
-        8 => Form::SignedMoment,
-        9 => Form::SignedMoment,
-        10 => Form::SignedForce,
-        11 => Form::SignedForce,
-        12 => Form::Force,
-        13 => Form::Force,
-        14 => Form::FootingFlags,
-        _ => Form::Id,
-    }
-}
-
-// place; xu, xy; mu; lap
-fn detail_form(place: usize) -> Form
-    ensures { λ r. ⌜ r ≡ getD (formsOf 10) place Form.Id ⌝ }
-{
-    match place {
-        0 => Form::Place,
-        1 => Form::Depth,
-        2 => Form::Depth,
-        3 => Form::Ductility,
-        4 => Form::YesNo,
-        _ => Form::Id,
-    }
-}
-
-pub fn form_of(command: u8, place: usize) -> Form
-    ensures { λ r. ⌜ r ≡ getD (formsOf command) place Form.Id ⌝ }
-{
-    match command {
-        1 => settings_form(place),
-        2 => joint_form(place),
-        3 => column_form(place),
-        4 => beam_form(place),
-        5 => hingeless_form(place),
-        6 => wall_base_form(place),
-        7 => storey_form(place),
-        8 => soil_form(place),
-        9 => footing_form(place),
-        10 => detail_form(place),
-        _ => Form::Id,
-    }
-}
-
-// The bytes of an operand.
-pub fn form_width(form: Form) -> usize
-    ensures { λ r. ⌜ r ≡ width form ⌝ }
-{
-    match form {
-        Form::Id => 1,
-        Form::Behaviour => 2,
-        Form::Overstrength => 2,
-        Form::MemberLength => 4,
-        Form::Moment => 4,
-        Form::Force => 4,
-        Form::SignedMoment => 4,
-        Form::SignedForce => 4,
-        Form::WallLength => 4,
-        Form::Inertia => 4,
-        Form::SoilKind => 1,
-        Form::SoilValue => 4,
-        Form::YesNo => 1,
-        Form::Side => 4,
-        Form::FootingFlags => 1,
-        Form::Place => 1,
-        Form::Depth => 2,
-        Form::Ductility => 2,
-    }
-}
-
-// The ranges that are no quantity's.
-const LEAST_INERTIA: u32 = 1;
-
-const GREATEST_INERTIA: u32 = 0xffff_ffff;
-
-const GREATEST_KIND: u32 = 1;
-
-const YES: u32 = 1;
-
-const GREATEST_FLAGS: u32 = 3;
-
-const GREATEST_PLACE: u32 = 2;
-
-const GREATEST_DEPTH: u32 = 1000;
-
-const LEAST_DUCTILITY: u32 = 1000;
-
-const GREATEST_DUCTILITY: u32 = 2000;
-
-// Whether an operand, as it stands in the file, is in the range of its form.
-pub fn in_range(form: Form, value: u32) -> bool
-    ensures { λ r. ⌜ r ≡ formInRange form value ⌝ }
-{
-    match form {
-        Form::Id => true,
-        Form::Behaviour => Factor::behaviour_in_range(value),
-        Form::Overstrength => Factor::overstrength_in_range(value),
-        Form::MemberLength => Length::member_in_range(value),
-        Form::Moment => Moment::in_range(value),
-        Form::Force => Force::in_range(value),
-        Form::SignedMoment => Moment::signed_in_range(signed(value)),
-        Form::SignedForce => Force::signed_in_range(signed(value)),
-        Form::WallLength => Length::wall_in_range(value),
-        Form::Inertia => quantity::between(value, LEAST_INERTIA, GREATEST_INERTIA),
-        Form::SoilKind => quantity::between(value, 0, GREATEST_KIND),
-        Form::SoilValue => true,
-        Form::YesNo => quantity::between(value, 0, YES),
-        Form::Side => Length::side_in_range(value),
-        Form::FootingFlags => quantity::between(value, 0, GREATEST_FLAGS),
-        Form::Place => quantity::between(value, 0, GREATEST_PLACE),
-        Form::Depth => quantity::between(value, 0, GREATEST_DEPTH),
-        Form::Ductility => quantity::between(value, LEAST_DUCTILITY, GREATEST_DUCTILITY),
-    }
-}
-
-// The i32 of 32 bits.
-pub fn signed(value: u32) -> i32
-    ensures { λ r. ⌜ r ≡ signed32 value ⌝ }
-{
-    let wide = value as i64;
-    if value < 0x8000_0000 {
-        wide as i32
-    } else {
-        (wide - 0x1_0000_0000) as i32
-    }
-}
-
-fn byte(job: &[u8], at: usize) -> u32
-    requires { ⌜ at < length (now job) ⌝ }
-    ensures { λ r. ⌜ ByteAt (now (job .entry)) at r ⌝ }
-{
-    job[at] as u32
-}
-
-fn two_bytes(job: &[u8], at: usize) -> u32
-    requires { ⌜ at + 2 ≤ length (now job) ⌝ }
-    ensures { λ r. ⌜ r ≡ numberOf (take 2 (drop at (now (job .entry)))) ⌝ }
-{
-    let first = byte(job, at);
-    let second = byte(job, at + 1);
-    first * 256 + second
-}
-
-fn four_bytes(job: &[u8], at: usize) -> u32
-    requires { ⌜ at + 4 ≤ length (now job) ⌝ }
-    ensures { λ r. ⌜ r ≡ numberOf (take 4 (drop at (now (job .entry)))) ⌝ }
-{
-    let first = byte(job, at);
-    let second = byte(job, at + 1);
-    let third = byte(job, at + 2);
-    let fourth = byte(job, at + 3);
-    ((first * 256 + second) * 256 + third) * 256 + fourth
-}
-
-// The big-endian number of 1, 2 or 4 bytes at an offset.
-pub fn number(job: &[u8], at: usize, width: usize) -> u32
-    requires { ⌜ InJob (now job) at width ⌝ }
-    ensures { λ r. ⌜ r ≡ numberOf (take width (drop at (now (job .entry)))) ⌝ }
-{
-    if width == 1 {
-        return byte(job, at);
-    }
-    if width == 2 {
-        return two_bytes(job, at);
-    }
-    four_bytes(job, at)
-}
-
-// ---- the commands from their operands, in the order of the file
-
-pub fn settings_of(operands: &[u32; 16]) -> Settings
-    ensures { λ r. ⌜ r ≡ settingsOf (λ i. getD (now (operands .entry)) i 0) ⌝ }
+fn settings_at(job: &[u8], at: usize) -> Settings
+    requires { ⌜ at + 6 ≤ length (now job) ⌝ }
+    ensures { λ r. ⌜ r ≡ settingsOf (operand 1 (now (job .entry)) at) ⌝ }
 {
     Settings {
-        behaviour: operands[0],
-        joints: operands[1],
-        foundations: operands[2],
+        behaviour: layout::two_from(job, at, 0),
+        joints: layout::two_from(job, at, 2),
+        foundations: layout::two_from(job, at, 4),
     }
 }
 
-pub fn joint_of(operands: &[u32; 16]) -> Joint
-    ensures { λ r. ⌜ r ≡ jointOf (λ i. getD (now (operands .entry)) i 0) ⌝ }
+fn joint_at(job: &[u8], at: usize) -> Joint
+    requires { ⌜ at + 13 ≤ length (now job) ⌝ }
+    ensures { λ r. ⌜ r ≡ jointOf (operand 2 (now (job .entry)) at) ⌝ }
 {
     Joint {
-        beams: operands[1],
-        columns: operands[2],
-        seismic: operands[3],
+        beams: layout::four_from(job, at, 1),
+        columns: layout::four_from(job, at, 5),
+        seismic: layout::four_from(job, at, 9),
     }
 }
 
-pub fn column_of(operands: &[u32; 16]) -> Column
-    ensures { λ r. ⌜ r ≡ columnOf (λ i. getD (now (operands .entry)) i 0) ⌝ }
+fn column_at(job: &[u8], at: usize) -> Column
+    requires { ⌜ at + 28 ≤ length (now job) ⌝ }
+    ensures { λ r. ⌜ r ≡ columnOf (operand 3 (now (job .entry)) at) ⌝ }
 {
     Column {
-        length: operands[0],
-        plus1: operands[1],
-        plus2: operands[2],
-        minus1: operands[3],
-        minus2: operands[4],
-        shear: operands[5],
-        strength: operands[6],
+        length: layout::four_from(job, at, 0),
+        plus1: layout::four_from(job, at, 4),
+        plus2: layout::four_from(job, at, 8),
+        minus1: layout::four_from(job, at, 12),
+        minus2: layout::four_from(job, at, 16),
+        shear: layout::four_from(job, at, 20),
+        strength: layout::four_from(job, at, 24),
     }
 }
 
-pub fn beam_of(operands: &[u32; 16]) -> Beam
-    ensures { λ r. ⌜ r ≡ beamOf (λ i. getD (now (operands .entry)) i 0) ⌝ }
+fn beam_at(job: &[u8], at: usize) -> Beam
+    requires { ⌜ at + 32 ≤ length (now job) ⌝ }
+    ensures { λ r. ⌜ r ≡ beamOf (operand 4 (now (job .entry)) at) ⌝ }
 {
     Beam {
-        length: operands[0],
-        plus1: operands[1],
-        plus2: operands[2],
-        minus1: operands[3],
-        minus2: operands[4],
-        nonseismic: signed(operands[5]),
-        shear: operands[6],
-        strength: operands[7],
+        length: layout::four_from(job, at, 0),
+        plus1: layout::four_from(job, at, 4),
+        plus2: layout::four_from(job, at, 8),
+        minus1: layout::four_from(job, at, 12),
+        minus2: layout::four_from(job, at, 16),
+        nonseismic: layout::signed_from(job, at, 20),
+        shear: layout::four_from(job, at, 24),
+        strength: layout::four_from(job, at, 28),
     }
 }
 
-pub fn hingeless_of(operands: &[u32; 16]) -> Hingeless
-    ensures { λ r. ⌜ r ≡ hingelessOf (λ i. getD (now (operands .entry)) i 0) ⌝ }
+fn hingeless_at(job: &[u8], at: usize) -> Hingeless
+    requires { ⌜ at + 22 ≤ length (now job) ⌝ }
+    ensures { λ r. ⌜ r ≡ hingelessOf (operand 5 (now (job .entry)) at) ⌝ }
 {
     Hingeless {
-        length: operands[0],
-        moment1: operands[3],
-        moment2: operands[4],
-        nonseismic: signed(operands[5]),
-        strength: operands[6],
+        length: layout::four_from(job, at, 0),
+        moment1: layout::four_from(job, at, 6),
+        moment2: layout::four_from(job, at, 10),
+        nonseismic: layout::signed_from(job, at, 14),
+        strength: layout::four_from(job, at, 18),
     }
 }
 
-pub fn wall_base_of(operands: &[u32; 16]) -> WallBase
-    ensures { λ r. ⌜ r ≡ wallBaseOf (λ i. getD (now (operands .entry)) i 0) ⌝ }
+fn wall_base_at(job: &[u8], at: usize) -> WallBase
+    requires { ⌜ at + 24 ≤ length (now job) ⌝ }
+    ensures { λ r. ⌜ r ≡ wallBaseOf (operand 6 (now (job .entry)) at) ⌝ }
 {
     WallBase {
-        length: operands[0],
-        thickness: operands[1],
-        resistance: operands[2],
-        moment: operands[3],
-        shear: operands[4],
-        strength: operands[5],
+        length: layout::four_from(job, at, 0),
+        thickness: layout::four_from(job, at, 4),
+        resistance: layout::four_from(job, at, 8),
+        moment: layout::four_from(job, at, 12),
+        shear: layout::four_from(job, at, 16),
+        strength: layout::four_from(job, at, 20),
     }
 }
 
-pub fn storey_of(operands: &[u32; 16]) -> Storey
-    ensures { λ r. ⌜ r ≡ storeyOf (λ i. getD (now (operands .entry)) i 0) ⌝ }
+fn storey_at(job: &[u8], at: usize) -> Storey
+    requires { ⌜ at + 24 ≤ length (now job) ⌝ }
+    ensures { λ r. ⌜ r ≡ storeyOf (operand 7 (now (job .entry)) at) ⌝ }
 {
     Storey {
-        moment: operands[0],
-        shear: operands[1],
-        inertia: operands[2],
-        baseInertia: operands[3],
-        strength: operands[4],
-        resistance: operands[5],
+        moment: layout::four_from(job, at, 0),
+        shear: layout::four_from(job, at, 4),
+        inertia: layout::four_from(job, at, 8),
+        baseInertia: layout::four_from(job, at, 12),
+        strength: layout::four_from(job, at, 16),
+        resistance: layout::four_from(job, at, 20),
     }
 }
 
-pub fn footing_of(operands: &[u32; 16]) -> Footing
-    ensures { λ r. ⌜ r ≡ footingOf (λ i. getD (now (operands .entry)) i 0) ⌝ }
+fn soil_at(job: &[u8], at: usize) -> SoilGiven
+    requires { ⌜ at + 6 ≤ length (now job) ⌝ }
+    ensures { λ r. ⌜ r ≡ soilGivenOf (operand 8 (now (job .entry)) at) ⌝ }
+{
+    SoilGiven {
+        kind: layout::byte_from(job, at, 0),
+        value: layout::four_from(job, at, 1),
+        sensitive: layout::byte_from(job, at, 5),
+    }
+}
+
+fn footing_at(job: &[u8], at: usize) -> Footing
+    requires { ⌜ at + 57 ≤ length (now job) ⌝ }
+    ensures { λ r. ⌜ r ≡ footingOf (operand 9 (now (job .entry)) at) ⌝ }
 {
     Footing {
-        breadth: operands[0],
-        length: operands[1],
-        resistance: operands[2],
-        moment: operands[3],
-        nv: signed(operands[4]),
-        ne: signed(operands[5]),
-        xv: signed(operands[6]),
-        xe: signed(operands[7]),
-        yv: signed(operands[8]),
-        ye: signed(operands[9]),
-        hv: signed(operands[10]),
-        he: signed(operands[11]),
-        uplift: operands[12],
-        passive: operands[13],
-        flags: operands[14],
+        breadth: layout::four_from(job, at, 0),
+        length: layout::four_from(job, at, 4),
+        resistance: layout::four_from(job, at, 8),
+        moment: layout::four_from(job, at, 12),
+        nv: layout::signed_from(job, at, 16),
+        ne: layout::signed_from(job, at, 20),
+        xv: layout::signed_from(job, at, 24),
+        xe: layout::signed_from(job, at, 28),
+        yv: layout::signed_from(job, at, 32),
+        ye: layout::signed_from(job, at, 36),
+        hv: layout::signed_from(job, at, 40),
+        he: layout::signed_from(job, at, 44),
+        uplift: layout::four_from(job, at, 48),
+        passive: layout::four_from(job, at, 52),
+        flags: layout::byte_from(job, at, 56),
     }
 }
 
-pub fn detail_of(operands: &[u32; 16]) -> Detail
-    ensures { λ r. ⌜ r ≡ detailOf (λ i. getD (now (operands .entry)) i 0) ⌝ }
+fn detail_at(job: &[u8], at: usize) -> Detail
+    requires { ⌜ at + 8 ≤ length (now job) ⌝ }
+    ensures { λ r. ⌜ r ≡ detailOf (operand 10 (now (job .entry)) at) ⌝ }
 {
     Detail {
-        place: operands[0],
-        ultimate: operands[1],
-        yielded: operands[2],
-        ductility: operands[3],
-        lap: operands[4],
+        place: layout::byte_from(job, at, 0),
+        ultimate: layout::two_from(job, at, 1),
+        yielded: layout::two_from(job, at, 3),
+        ductility: layout::two_from(job, at, 5),
+        lap: layout::byte_from(job, at, 7),
+    }
+}
+
+// The command at an offset of a job, by its byte.
+pub fn read(job: &[u8], offset: usize, command: u8) -> Command
+    requires byte { ⌜ command ≡ byteAt (now job) offset ⌝ }
+    requires whole { ⌜ offset + 1 + operandsWidth command ≤ length (now job) ⌝ }
+    ensures { λ r. ⌜ r ≡ commandAt (now (job .entry)) offset ⌝ }
+{
+    let at = offset + 1;
+    match command {
+        1 => Command::Settings(settings_at(job, at)),
+        2 => Command::Joint(layout::id_from(job, at, 0), joint_at(job, at)),
+        3 => Command::Column(column_at(job, at)),
+        4 => Command::Beam(beam_at(job, at)),
+        5 => Command::Hingeless(
+            layout::id_from(job, at, 4),
+            layout::id_from(job, at, 5),
+            hingeless_at(job, at),
+        ),
+        6 => Command::WallBase(wall_base_at(job, at)),
+        7 => Command::Storey(storey_at(job, at)),
+        8 => Command::Soil(soil_at(job, at)),
+        9 => Command::Footing(footing_at(job, at)),
+        10 => Command::Detail(detail_at(job, at)),
+        _ => Command::Finish,
     }
 }
 
@@ -513,19 +216,157 @@ pub fn detail_of(operands: &[u32; 16]) -> Detail
 fn soil_related(kind: u32, bits: u32) -> bool
     ensures { λ r. ⌜ r ≡ soilAllowed kind bits ⌝ }
 {
-    if kind > GREATEST_KIND {
+    if kind > layout::GREATEST_KIND {
         return false;
     }
     soil::in_range(kind as u8, bits)
 }
 
-// The relation between operands where a command has one: J ≤ J0, and the soil value by its kind.
-pub fn related(command: u8, operands: &[u32; 16]) -> bool
-    ensures { λ r. ⌜ r ≡ relatedIn (commandOf command (λ i. getD (now (operands .entry)) i 0)) ⌝ }
+// ---- the range test of a command's values
+
+fn settings_in_range(s: Settings) -> bool
+    ensures { λ r. ⌜ r ≡ inRange (Command.Settings s) ⌝ }
+{
+    Factor::behaviour_in_range(s.behaviour)
+        & Factor::overstrength_in_range(s.joints)
+        & Factor::overstrength_in_range(s.foundations)
+}
+
+fn joint_in_range(j: Joint) -> bool
+    ensures { λ r. ⌜ r ≡ inRange (Command.Joint 0 j) ⌝ }
+{
+    Moment::in_range(j.beams) & Moment::in_range(j.columns) & Moment::in_range(j.seismic)
+}
+
+fn column_in_range(c: Column) -> bool
+    ensures { λ r. ⌜ r ≡ inRange (Command.Column c) ⌝ }
+{
+    Length::member_in_range(c.length)
+        & Moment::in_range(c.plus1)
+        & Moment::in_range(c.plus2)
+        & Moment::in_range(c.minus1)
+        & Moment::in_range(c.minus2)
+        & Force::in_range(c.shear)
+        & Force::in_range(c.strength)
+}
+
+fn beam_in_range(b: Beam) -> bool
+    ensures { λ r. ⌜ r ≡ inRange (Command.Beam b) ⌝ }
+{
+    Length::member_in_range(b.length)
+        & Moment::in_range(b.plus1)
+        & Moment::in_range(b.plus2)
+        & Moment::in_range(b.minus1)
+        & Moment::in_range(b.minus2)
+        & Force::signed_in_range(b.nonseismic)
+        & Force::in_range(b.shear)
+        & Force::in_range(b.strength)
+}
+
+fn hingeless_in_range(m: Hingeless) -> bool
+    ensures { λ r. ⌜ r ≡ inRange (Command.Hingeless 0 0 m) ⌝ }
+{
+    Length::member_in_range(m.length)
+        & Moment::in_range(m.moment1)
+        & Moment::in_range(m.moment2)
+        & Force::signed_in_range(m.nonseismic)
+        & Force::in_range(m.strength)
+}
+
+fn wall_base_in_range(b: WallBase) -> bool
+    ensures { λ r. ⌜ r ≡ inRange (Command.WallBase b) ⌝ }
+{
+    Length::wall_in_range(b.length)
+        & Length::wall_in_range(b.thickness)
+        & Moment::in_range(b.resistance)
+        & Moment::in_range(b.moment)
+        & Force::in_range(b.shear)
+        & Force::in_range(b.strength)
+}
+
+fn storey_in_range(s: Storey) -> bool
+    ensures { λ r. ⌜ r ≡ inRange (Command.Storey s) ⌝ }
+{
+    Moment::in_range(s.moment)
+        & Force::in_range(s.shear)
+        & quantity::between(s.inertia, layout::LEAST_INERTIA, layout::GREATEST_INERTIA)
+        & quantity::between(
+            s.baseInertia,
+            layout::LEAST_INERTIA,
+            layout::GREATEST_INERTIA,
+        )
+        & Force::in_range(s.strength)
+        & Moment::in_range(s.resistance)
+        & (s.inertia <= s.baseInertia)
+}
+
+fn soil_in_range(s: SoilGiven) -> bool
+    ensures { λ r. ⌜ r ≡ inRange (Command.Soil s) ⌝ }
+{
+    quantity::between(s.kind, 0, layout::GREATEST_KIND)
+        & quantity::between(s.sensitive, 0, layout::YES)
+        & soil_related(s.kind, s.value)
+}
+
+fn footing_in_range(f: Footing) -> bool
+    ensures { λ r. ⌜ r ≡ inRange (Command.Footing f) ⌝ }
+{
+    Length::side_in_range(f.breadth)
+        & Length::side_in_range(f.length)
+        & Moment::in_range(f.resistance)
+        & Moment::in_range(f.moment)
+        & Force::signed_in_range(f.nv)
+        & Force::signed_in_range(f.ne)
+        & Moment::signed_in_range(f.xv)
+        & Moment::signed_in_range(f.xe)
+        & Moment::signed_in_range(f.yv)
+        & Moment::signed_in_range(f.ye)
+        & Force::signed_in_range(f.hv)
+        & Force::signed_in_range(f.he)
+        & Force::in_range(f.uplift)
+        & Force::in_range(f.passive)
+        & quantity::between(f.flags, 0, layout::GREATEST_FLAGS)
+}
+
+fn detail_in_range(d: Detail) -> bool
+    ensures { λ r. ⌜ r ≡ inRange (Command.Detail d) ⌝ }
+{
+    quantity::between(d.place, 0, layout::GREATEST_PLACE)
+        & quantity::between(d.ultimate, 0, layout::GREATEST_DEPTH)
+        & quantity::between(d.yielded, 0, layout::GREATEST_DEPTH)
+        & quantity::between(
+            d.ductility,
+            layout::LEAST_DUCTILITY,
+            layout::GREATEST_DUCTILITY,
+        )
+        & quantity::between(d.lap, 0, layout::YES)
+}
+
+// Whether every operand of a command is in its range, and the relation between them holds.
+pub fn command_in_range(command: Command) -> bool
+    ensures { λ r. ⌜ r ≡ inRange command ⌝ }
 {
     match command {
-        7 => operands[2] <= operands[3],
-        8 => soil_related(operands[0], operands[1]),
-        _ => true,
+        Command::Finish => true,
+        Command::Settings(s) => settings_in_range(s),
+        Command::Joint(_, j) => joint_in_range(j),
+        Command::Column(c) => column_in_range(c),
+        Command::Beam(b) => beam_in_range(b),
+        Command::Hingeless(_, _, m) => hingeless_in_range(m),
+        Command::WallBase(b) => wall_base_in_range(b),
+        Command::Storey(s) => storey_in_range(s),
+        Command::Soil(s) => soil_in_range(s),
+        Command::Footing(f) => footing_in_range(f),
+        Command::Detail(d) => detail_in_range(d),
     }
+}
+
+// The operand that the relation between a command's operands names, by the command's byte: J of a storey, the value of a soil.
+pub fn relation_names(command: u8) -> u32
+    ensures { λ r. ⌜ r ≡ relationNames command ⌝ }
+{
+    if command == 7 {
+        return 2;
+    }
+    if command == 8 { 1 } else { 0 }
 }

@@ -10,12 +10,16 @@ use lib.Dec.{eqb}
 use lib.ListN.{length}
 use borrow.Author.Tests.{eqb-true, not-false}
 use Rattle.coefficient.specs.declared.Settings.{Settings}
-use Rattle.format.specs.Layouts.{known, operandsWidth}
-use Rattle.format.specs.Commands.{Command, settings, byteOf, commandOf, settingsOf}
-use Rattle.format.specs.Reading.{byteAt, operandsAt, commandAt}
-use Rattle.format.proofs.KnownBytes.{known-most}
-use Rattle.format.proofs.RoundTrip.{byte-back, at}
-use Rattle.held.specs.Held.{Held, nothing, next}
+use Rattle.layout.specs.Layouts.{known, operandsWidth}
+use Rattle.format.specs.declared.Command.{Command}
+use Rattle.format.specs.declared.Command.the-variants.{Settings as settings}
+use Rattle.format.specs.Commands.{byteOf, commandOf, settingsOf}
+use Rattle.layout.specs.Operands.{byteAt, operandsAt}
+use Rattle.format.specs.Reading.{commandAt}
+use Rattle.layout.proofs.KnownBytes.{known-most}
+use Rattle.layout.proofs.OperandsRead.{at}
+use Rattle.format.proofs.RoundTrip.{byte-back}
+use Rattle.context.specs.Context.{Context, nothing, next}
 use Rattle.job.specs.Faults.{afterCommand, faultAt, misplaced}
 use Rattle.job.specs.Placed.{Placed, Job, refused, accepted, before, placedFrom, placed}
 use Rattle.job.proofs.Steps.{count-below}
@@ -54,7 +58,7 @@ unfolding commandAt
 byte-read job offset k = byte-back (byteAt job offset) (at (operandsAt job offset)) (known-most (byteAt job offset) k)
 
 -- one command in front
-module _ (job : List ℕ) (offset count : ℕ) (h : Held) (f : Faultless job offset count h) (z : byteAt job offset ≡ 0 → ⊥) where
+module _ (job : List ℕ) (offset count : ℕ) (h : Context) (f : Faultless job offset count h) (z : byteAt job offset ≡ 0 → ⊥) where
   same-byte : byteOf (commandAt job offset) ≡ byteAt job offset
   same-byte = byte-read job offset (f .known-byte)
 
@@ -83,7 +87,7 @@ module _ (job : List ℕ) (offset count : ℕ) (h : Held) (f : Faultless job off
   filling-more (refused number at) g = tt
   filling-more (accepted ps) g = filled-more ps g
 
-filling : (n : ℕ) (job : List ℕ) (offset count : ℕ) (h : Held) → count ≤ 4096 → Filling job offset count (placedFrom n job offset count h)
+filling : (n : ℕ) (job : List ℕ) (offset count : ℕ) (h : Context) → count ≤ 4096 → Filling job offset count (placedFrom n job offset count h)
 unfolding placedFrom
 filling zero job offset count h c = tt
 filling (suc n) job offset count h c =
@@ -111,7 +115,7 @@ settings-read job offset e = rw e
 
 -- a list of placed commands whose first is settings, at offset 0
 abbrev pub BeginsWithSettings : List Placed → Type 0
-BeginsWithSettings ps = (s : Settings) × (later : List Placed) × (ps ≡ record { offset = 0; command = settings s; held = nothing } ∷ later)
+BeginsWithSettings ps = (s : Settings) × (later : List Placed) × (ps ≡ record { offset = 0; command = settings s; context = nothing } ∷ later)
 
 begins : (n : ℕ) (job : List ℕ) (ps : List Placed) → placedFrom (suc n) job 0 0 nothing ≡ accepted ps → BeginsWithSettings ps
 begins n job ps =
@@ -131,7 +135,7 @@ begins n job ps =
     front (refused number offset) q c = absurd (differ q)
     front (accepted later) q c =
         let r : ps ≡ placedAt job 0 nothing ∷ later = cc in
-        (settingsOf (at (operandsAt job 0)), later, r ∙ ap (λ (d : Command). record { offset = 0; command = d; held = nothing } ∷ later) c)
+        (settingsOf (at (operandsAt job 0)), later, r ∙ ap (λ (d : Command). record { offset = 0; command = d; context = nothing } ∷ later) c)
 
 -- ---- the laws
 

@@ -1,8 +1,9 @@
 -- The walk of the code is the placed commands of the specification; the laws of jobs that are refused and of jobs that are
 -- accepted; refusals by computation.
 mod Steps
-mod Operands
+mod Scan
 mod Stands
+mod Ways
 pub mod PlacedCases
 pub mod Simulation
 pub mod Begin

@@ -7,20 +7,21 @@ use native.Mathlib.Omega.{arith}
 use native.Mathlib.Decide.{decLe, ℕ-discrete}
 use lib.ListN.{length}
 use borrow.Author.Tests.{le-leb, lt-leb, lt-ltb, le-ltb, ne-eqb}
-use Rattle.format.specs.Reading.{byteAt, commandAt}
-use Rattle.held.specs.Held.{Held, next}
+use Rattle.layout.specs.Operands.{byteAt}
+use Rattle.format.specs.Reading.{commandAt}
+use Rattle.context.specs.Context.{Context, next}
 use Rattle.job.specs.Faults.{faultAt, afterCommand}
 use Rattle.job.specs.Placed.{Placed, Job, refused, accepted, before, placedFrom}
 
 -- the command placed at an offset
-abbrev pub placedAt : List ℕ → ℕ → Held → Placed
-placedAt job at h = record { offset = at; command = commandAt job at; held = h }
+abbrev pub placedAt : List ℕ → ℕ → Context → Placed
+placedAt job at h = record { offset = at; command = commandAt job at; context = h }
 
 -- what follows it
-abbrev pub restAfter : ℕ → List ℕ → ℕ → ℕ → Held → Job
+abbrev pub restAfter : ℕ → List ℕ → ℕ → ℕ → Context → Job
 restAfter n job at count h = placedFrom n job (afterCommand job at) (count + 1) (next h (commandAt job at))
 
-module _ (n : ℕ) (job : List ℕ) (at count : ℕ) (h : Held) where
+module _ (n : ℕ) (job : List ℕ) (at count : ℕ) (h : Context) where
   pub placed-none : length job ≤ at → placedFrom (suc n) job at count h ≡ refused 1 (length job)
   unfolding placedFrom
   placed-none l = rw (le-leb (length job) at l)

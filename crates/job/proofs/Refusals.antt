@@ -6,13 +6,14 @@ use mathlib.Core.List.{List, [], _∷_, _++_}
 use Prim.Native.Nat.{ℕ}
 use lib.ListN.{replicate}
 use Rattle.quantity.specs.Range.{within, withinSigned}
-use Rattle.format.specs.Number.{number, numberAfter, signed32, bits32}
-use Rattle.format.specs.Forms.{width, formInRange}
-use Rattle.format.specs.Layouts.{known, knownIn, formsOf, formsIn, widthOfAll, operandsWidth}
+use Rattle.layout.specs.Number.{number, numberAfter, signed32, bits32}
+use Rattle.layout.specs.Forms.{width, formInRange}
+use Rattle.layout.specs.Layouts.{known, knownIn, formsOf, formsIn, widthOfAll, operandsWidth}
 use Rattle.format.specs.Commands.{commandOf, inRange, allInRange, related}
-use Rattle.format.specs.Reading.{byteAt, commandAt, readOperands}
-use Rattle.held.specs.Held.{Held, nothing, next, given, absent, repeated}
-use Rattle.held.specs.Rows.{rowsOf, rowsWith}
+use Rattle.layout.specs.Operands.{byteAt, readOperands}
+use Rattle.format.specs.Reading.{commandAt}
+use Rattle.context.specs.Context.{Context, nothing, next, given, absent, repeated}
+use Rattle.rows.specs.Rows.{rowsOf, rowsWith}
 use Rattle.job.specs.Faults.{unknown, cutShort, tooMany, misplaced, outOfRange, faultAt}
 use Rattle.job.specs.Placed.{refused, placedFrom, placed, allRows}
 use Rattle.job.specs.Answers.{rowsAnswer, sizeOf}
@@ -117,14 +118,14 @@ abbrev Both : Bool → Bool → List ℕ → ℕ → ℕ → Type 0
 Both first second job number offset = (first ≡ true) × (second ≡ true) × (placed job ≡ refused number offset)
 
 -- the fault of a 4,097th command that has another fault too
-abbrev Last : Bool → List ℕ → Held → ℕ → Type 0
+abbrev Last : Bool → List ℕ → Context → ℕ → Type 0
 Last other command h number = (tooMany (byteAt command 0) 4096 ≡ true) × (other ≡ true) × (faultAt command 0 4096 h ≡ number)
 
 -- what holds after settings, and after a joint too
-abbrev begun : Held
+abbrev begun : Context
 begun = next nothing (commandAt settings 0)
 
-abbrev jointed : Held
+abbrev jointed : Context
 jointed = next begun (commandAt joint 0)
 
 -- the jobs

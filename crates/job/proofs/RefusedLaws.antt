@@ -9,12 +9,13 @@ use lib.Dec.{T, eqb, leb, lit≤, T-not}
 use lib.ListN.{length, drop, length-append, length-drop, List·getD-append}
 use lib.Seq.{take-append-le, drop-append-le}
 use borrow.Author.Tests.{le-ltb}
-use Rattle.format.specs.declared.Form.{Form}
-use Rattle.format.specs.Forms.{width}
-use Rattle.format.specs.Layouts.{formsOf, widthOfAll, operandsWidth}
-use Rattle.format.specs.Reading.{byteAt, commandAt, readOperands}
-use Rattle.format.proofs.Widths.{widths}
-use Rattle.held.specs.Held.{Held, nothing, next, given, absent, repeated}
+use Rattle.layout.specs.declared.Form.{Form}
+use Rattle.layout.specs.Forms.{width}
+use Rattle.layout.specs.Layouts.{formsOf, widthOfAll, operandsWidth}
+use Rattle.layout.specs.Operands.{byteAt, readOperands}
+use Rattle.format.specs.Reading.{commandAt}
+use Rattle.layout.proofs.Widths.{widths}
+use Rattle.context.specs.Context.{Context, nothing, next, given, absent, repeated}
 use Rattle.job.specs.Faults.{unknown, afterCommand, cutShort, tooMany, misplaced, outOfRange, faultAt}
 use Rattle.job.specs.Placed.{Placed, Job, refused, accepted, before, placedFrom, placed}
 use Rattle.job.proofs.Simulation.{faultless}
@@ -27,7 +28,7 @@ record FaultNumber (n : ℕ) : Type 0 where
   pub most : n ≤ 8
   pub other : n ≡ 3 → ⊥
 
-fault-number : (job : List ℕ) (at count : ℕ) (h : Held) → FaultNumber (faultAt job at count h)
+fault-number : (job : List ℕ) (at count : ℕ) (h : Context) → FaultNumber (faultAt job at count h)
 unfolding faultAt
 fault-number job at count h =
     pick (unknown job at) 2 tt tt (pick (cutShort job at) 1 tt tt (pick (tooMany (byteAt job at) count) 8 tt tt (pick (misplaced (byteAt job at) (given (h .settings))) 4 tt tt
@@ -51,7 +52,7 @@ abbrev Standing : List ℕ → ℕ → Job → Type 0
 Standing job at (refused number offset) = Stands job at number offset
 Standing job at (accepted ps) = Unit {0}
 
-standing : (n : ℕ) (job : List ℕ) (at count : ℕ) (h : Held) → at ≤ length job → Standing job at (placedFrom n job at count h)
+standing : (n : ℕ) (job : List ℕ) (at count : ℕ) (h : Context) → at ≤ length job → Standing job at (placedFrom n job at count h)
 unfolding placedFrom
 standing zero job at count h w = record { from = omega arith; inside = w; least = lit≤ tt; most = lit≤ tt }
 standing (suc n) job at count h w =
@@ -101,7 +102,7 @@ module _ (front : List ℕ) (at : ℕ) (w : afterCommand front at ≤ length fro
       let m : widthOfAll (formsOf (byteAt front at)) ≤ length (drop (at + 1) front) = omega (arith, length-drop (at + 1) front) in
       rw (byte-in-front, drop-append-le (at + 1) front more l, reads-first (formsOf (byteAt front at)) (drop (at + 1) front) more m)
 
-  fault-in-front : (count : ℕ) (h : Held) → faultAt (front ++ more) at count h ≡ faultAt front at count h
+  fault-in-front : (count : ℕ) (h : Context) → faultAt (front ++ more) at count h ≡ faultAt front at count h
   unfolding faultAt
   fault-in-front count h =
       let l : afterCommand front at ≤ length (front ++ more) = omega (arith, length-append front more) in
@@ -120,18 +121,18 @@ behind p (accepted ps) e = absurd (no e)
 -- where the refusal is of a command, the front holds this whole; where it is 3, its offset lies in the front
 module _ (front a b : List ℕ) (number offset : ℕ) (w : offset < length front) (whole : (number ≡ 3 → ⊥) → afterCommand front offset ≤ length front) where
   -- at a command that lies in the front, the same fault is found
-  fault-same : (at count : ℕ) (h : Held) → afterCommand front at ≤ length front → faultAt (front ++ b) at count h ≡ faultAt (front ++ a) at count h
+  fault-same : (at count : ℕ) (h : Context) → afterCommand front at ≤ length front → faultAt (front ++ b) at count h ≡ faultAt (front ++ a) at count h
   fault-same at count h v = fault-in-front front at v b count h ∙ sym (fault-in-front front at v a count h)
 
   longer : (c : List ℕ) {k : ℕ} → k < length front → k < length (front ++ c)
   longer c h = omega (arith, length-append front c)
 
   -- a job that begins as this one does is refused as this one is
-  abbrev Kept : ℕ → ℕ → ℕ → Held → Job → Type 0
+  abbrev Kept : ℕ → ℕ → ℕ → Context → Job → Type 0
   Kept n at count h j = j ≡ refused number offset → placedFrom n (front ++ b) at count h ≡ refused number offset
 
   -- the cases of a step
-  module _ (n at count : ℕ) (h : Held) (l : at < length (front ++ a)) where
+  module _ (n at count : ℕ) (h : Context) (l : at < length (front ++ a)) where
     kept-fault : (k : ℕ) → faultAt (front ++ a) at count h ≡ suc k → Kept (suc n) at count h (refused (suc k) at)
     kept-fault k f e =
         let q : offset ≡ at = cc in
@@ -161,7 +162,7 @@ module _ (front a b : List ℕ) (number offset : ℕ) (w : offset < length front
           rw (byte-in-front front at v b, command-in-front front at v b) (rw (y, command-in-front front at v a) at (ih r)) in
           placed-goes n (front ++ b) at count h (longer b (omega arith)) (fault-same at count h v ∙ f) (λ q. z (y ∙ sym (byte-in-front front at v b) ∙ q)) ∙ ap (before (placedAt (front ++ b) at h)) g
 
-  kept : (n at count : ℕ) (h : Held) → Kept n at count h (placedFrom n (front ++ a) at count h)
+  kept : (n at count : ℕ) (h : Context) → Kept n at count h (placedFrom n (front ++ a) at count h)
   unfolding placedFrom
   kept zero at count h = λ e. e
   kept (suc n) at count h =

@@ -3,32 +3,38 @@
 use mathlib.Core.Path.{_≡_, refl, sym, ap, _∙_, subst}
 use mathlib.Core.Bool.{Bool, true, false, not, cond}
 use mathlib.Core.List.{List, [], _∷_, _++_}
-use Prim.Native.Nat.{ℕ, zero, suc, _+_, _-_, _≤_, _<_}
+use Prim.Native.Nat.{ℕ, zero, suc, _+_, _≤_, _<_}
 use native.Mathlib.Omega.{arith}
 use native.Mathlib.Decide.{decLe, ℕ-discrete}
 use native.Mathlib.Nat.{add-zero}
 use lib.Dec.{ltb, lit<}
 use lib.IntN.{ℤ}
-use lib.ListN.{length, length-append}
-use borrow.Author.Tests.{ltb-false}
-use Rattle.format.specs.Layouts.{known, formsOf, formsIn}
-use Rattle.format.specs.Forms.{width}
-use Rattle.format.specs.Commands.{settings, commandOf, inRange}
-use Rattle.format.specs.Reading.{byteAt, operandsAt, commandAt}
-use Rattle.format.proofs.Numbers.{Bytes}
-use Rattle.format.proofs.KnownBytes.{each-byte, command-above, known-most}
-use Rattle.format.proofs.RoundTrip.{byte-back, Fit, at}
-use Rattle.format.proofs.OperandsRead.{operands-fit}
-use Rattle.held.specs.Held.{Held, given, next, absent, repeated}
-use Rattle.held.specs.Running.{nextJoints, storedAll}
-use Rattle.held.proofs.Laws.{storedAll-append}
-use Rattle.held.proofs.Shown.{Shows, IdsFit, InPlace, settings-given, absent-same, repeated-same, shows-next, rows-same}
+use lib.ListN.{length, length-append, length-map}
+use borrow.Author.Tests.{ltb-false, leb-false}
+use Rattle.layout.specs.Forms.{width}
+use Rattle.layout.specs.Layouts.{known, formsOf, formsIn}
+use Rattle.layout.specs.Operands.{byteAt, operandsAt}
+use Rattle.layout.proofs.Numbers.{Bytes}
+use Rattle.layout.proofs.KnownBytes.{each-byte}
+use Rattle.layout.proofs.OperandsRead.{at, Fit, operands-fit}
+use Rattle.format.specs.Commands.{byteOf, commandOf, inRange}
+use Rattle.format.specs.Reading.{commandAt}
+use Rattle.format.proofs.CommandBytes.{command-above}
+use Rattle.format.proofs.CommandRead.{byte-read}
+use Rattle.context.specs.declared.State.{State}
+use Rattle.context.specs.Context.{Context, given, next, absent, repeated}
+use Rattle.context.specs.Running.{roomFor, JointTable, nextState, nextSums, nextJoints}
+use Rattle.context.proofs.Shown.{Shows, IdsFit, InPlace, settings-given, absent-same, repeated-same, shows-next}
+use Rattle.rows.specs.Rows.{rowsOf, words}
+use Rattle.rows.specs.Writing.{rowsFrom, storedAll}
+use Rattle.rows.proofs.Laws.{rows-count, stored-length, storedAll-append, storedAll-none}
+use Rattle.rows.proofs.RowsSame.{rows-same, rows-as-many}
 use Rattle.job.specs.declared.Place.{Place}
 use Rattle.job.specs.declared.Walked.the-variants.{Refused, Finished}
-use Rattle.job.specs.Faults.{tooMany, misplaced, afterCommand, firstOf, faultAt}
+use Rattle.job.specs.Faults.{tooMany, misplaced, afterCommand, firstOf, faultAt, operandNamed}
 use Rattle.job.specs.Placed.{Placed, Job, refused, accepted, before, placedFrom, rowsAt, allRows}
 use Rattle.job.specs.Walking.{faultFrom, Final, rowsHere, nextPlace, outcome, walkFrom}
-use Rattle.job.proofs.PlacedCases.{placed-none, placed-fault, placed-more, placed-end, placed-goes}
+use Rattle.job.proofs.PlacedCases.{placedAt, restAfter, placed-none, placed-fault, placed-more, placed-end, placed-goes}
 use Rattle.job.proofs.Steps.{walk-step-suc, onward, count-below, no-end, faulty, more-bytes, finished, goes-on}
 
 -- ---- a command read from bytes has ids that are bytes
@@ -44,7 +50,7 @@ unfolding commandAt
 ids-read job offset b = ids-fit (byteAt job offset) (at (operandsAt job offset)) (operands-fit job offset b)
 
 -- a command that passes the test of settings is in its place
-in-place-of : (byte : ℕ) (v : ℕ → ℕ) (t : Rattle.held.specs.declared.State.State) → misplaced byte (t .given) ≡ false → InPlace t (commandOf byte v)
+in-place-of : (byte : ℕ) (v : ℕ → ℕ) (t : State) → misplaced byte (t .given) ≡ false → InPlace t (commandOf byte v)
 unfolding commandOf misplaced
 in-place-of byte v t = each-byte (λ b. misplaced b (t .given) ≡ false → InPlace t (commandOf b v)) (λ e. tt) first later later later later later later later later later
     (λ b h e. subst (InPlace t) (sym (command-above b v h)) tt) byte
@@ -63,19 +69,19 @@ in-place-of byte v t = each-byte (λ b. misplaced b (t .given) ≡ false → InP
         by true e = refl
         by false e = sym e
 
--- ---- the fault off the state is the fault off what holds
+-- ---- the fault off the state is the fault off the context
 
-fault-same : (job : List ℕ) (p : Place) (joints : List ℕ) (h : Held) → Bytes job → Shows (p .state) joints h → faultFrom job p joints ≡ faultAt job (p .offset) (p .count) h
+fault-same : (room : Bool) (job : List ℕ) (p : Place) (joints : JointTable) (h : Context) → Bytes job → Shows room (p .state) joints h → faultFrom job p joints ≡ faultAt job (p .offset) (p .count) h
 unfolding faultFrom faultAt
-fault-same job p joints h b s =
+fault-same room job p joints h b s =
     rw (
-      settings-given (p .state) joints h s,
-      absent-same (p .state) joints h s (commandAt job (p .offset)) (ids-read job (p .offset) b),
-      repeated-same (p .state) joints h s (commandAt job (p .offset)) (ids-read job (p .offset) b),
+      settings-given room (p .state) joints h s,
+      absent-same room (p .state) joints h s (commandAt job (p .offset)) (ids-read job (p .offset) b),
+      repeated-same room (p .state) joints h s (commandAt job (p .offset)) (ids-read job (p .offset) b),
     )
 
 -- no fault: each test has passed
-pub record Faultless (job : List ℕ) (offset count : ℕ) (h : Held) : Type 0 where
+pub record Faultless (job : List ℕ) (offset count : ℕ) (h : Context) : Type 0 where
   pub known-byte : known (byteAt job offset) ≡ true
   pub whole : afterCommand job offset ≤ length job
   pub few : tooMany (byteAt job offset) count ≡ false
@@ -84,7 +90,7 @@ pub record Faultless (job : List ℕ) (offset count : ℕ) (h : Held) : Type 0 w
   pub present : absent h (commandAt job offset) ≡ false
   pub new : repeated h (commandAt job offset) ≡ false
 
-pub faultless : (job : List ℕ) (offset count : ℕ) (h : Held) → faultAt job offset count h ≡ 0 → Faultless job offset count h
+pub faultless : (job : List ℕ) (offset count : ℕ) (h : Context) → faultAt job offset count h ≡ 0 → Faultless job offset count h
 unfolding faultAt
 faultless job offset count h =
     by (known (byteAt job offset)) (ltb (length job) (afterCommand job offset)) (tooMany (byteAt job offset) count) (misplaced (byteAt job offset) (given (h .settings)))
@@ -108,113 +114,141 @@ faultless job offset count h =
 
 -- ---- the step
 
-in-place : (job : List ℕ) (p : Place) (joints : List ℕ) (h : Held) → Shows (p .state) joints h → Faultless job (p .offset) (p .count) h → InPlace (p .state) (commandAt job (p .offset))
+in-place : (room : Bool) (job : List ℕ) (p : Place) (joints : JointTable) (h : Context) → Shows room (p .state) joints h → Faultless job (p .offset) (p .count) h → InPlace (p .state) (commandAt job (p .offset))
 unfolding commandAt
-in-place job p joints h s f = in-place-of (byteAt job (p .offset)) (at (operandsAt job (p .offset))) (p .state) (rw (settings-given (p .state) joints h s) at (f .settings))
+in-place room job p joints h s f = in-place-of (byteAt job (p .offset)) (at (operandsAt job (p .offset))) (p .state) (rw (settings-given room (p .state) joints h s) at (f .settings))
 
--- the rows of the command at a place are those of the placed command
-rows-placed : (job : List ℕ) (p : Place) (joints : List ℕ) (h : Held) → Bytes job → Shows (p .state) joints h → Faultless job (p .offset) (p .count) h →
-    rowsHere job p joints ≡ rowsAt (record { offset = p .offset; command = commandAt job (p .offset); held = h })
-unfolding rowsHere commandAt
-rows-placed job p joints h b s f =
-    let byte = byteAt job (p .offset) in
-    let v = at (operandsAt job (p .offset)) in
-    rw (rows-same (p .state) joints h s (commandOf byte v) (ids-read job (p .offset) b) (in-place job p joints h s f) (f .present), byte-back byte v (known-most byte (f .known-byte)))
+-- the rows of the command at a place leave what those of the placed command leave, and are as many
+pub record Alike (rows placed : List (List ℤ)) (n : ℕ) (memory : List ℤ) : Type 0 where
+  pub many : length rows ≡ length placed
+  pub left : storedAll memory n rows ≡ storedAll memory n placed
+
+module _ (job : List ℕ) (p : Place) (joints : JointTable) (h : Context) (b : Bytes job) (f : Faultless job (p .offset) (p .count) h) (memory : List ℤ) where
+  with-room : Shows true (p .state) joints h → Alike (rowsHere true job p joints) (rowsAt (placedAt job (p .offset) h)) (p .rows) memory
+  with-room s = record { many = ap length same; left = ap (storedAll memory (p .rows)) same }
+    where
+      same : rowsHere true job p joints ≡ rowsAt (placedAt job (p .offset) h)
+      same =
+          unfold rowsHere in
+          rw (rows-same true (p .state) joints h s refl (commandAt job (p .offset)) (ids-read job (p .offset) b) (in-place true job p joints h s f) (f .present), byte-read job (p .offset) (f .known-byte))
+
+  without : length memory < 8 → Shows false (p .state) joints h → Alike (rowsHere false job p joints) (rowsAt (placedAt job (p .offset) h)) (p .rows) memory
+  without l s =
+      record {
+        many = as-many;
+        left = storedAll-none memory (p .rows) (rowsHere false job p joints) (omega arith) ∙ sym (storedAll-none memory (p .rows) (rowsAt (placedAt job (p .offset) h)) (omega arith));
+      }
+    where
+      as-many : length (rowsHere false job p joints) ≡ length (rowsAt (placedAt job (p .offset) h))
+      as-many =
+          let c = commandAt job (p .offset) in
+          unfold rowsHere in
+          length-map (rowsFrom (nextState false (p .state) c) (nextSums false (joints .sums) c) c) (words (p .offset) (byteAt job (p .offset)))
+          ∙ rows-count (nextState false (p .state) c) (nextSums false (joints .sums) c) c
+          ∙ sym (length-map (rowsOf h c) (words (p .offset) (byteOf c)) ∙ rows-as-many false (p .state) joints h s c (in-place false job p joints h s f) (f .present))
+
+  pub rows-alike : (room : Bool) → roomFor (length memory) ≡ room → Shows room (p .state) joints h → Alike (rowsHere room job p joints) (rowsAt (placedAt job (p .offset) h)) (p .rows) memory
+  rows-alike true r s = with-room s
+  rows-alike false r s = without (leb-false 8 (length memory) r) s
 
 -- ---- the whole walk
 
 -- the outcome of the walk from row n and this memory on is that of the placed commands
-abbrev pub Matches : Job → Final → ℕ → List ℤ → Type 0
-Matches (refused number offset) f n memory = f .answer ≡ Refused number offset
-Matches (accepted ps) f n memory = (f .answer ≡ Finished (n + length (allRows ps))) × (f .memory ≡ storedAll memory n (allRows ps))
+abbrev pub Matches : List ℕ → Job → Final → ℕ → List ℤ → Type 0
+Matches job (refused number offset) f n memory = f .answer ≡ Refused number offset (operandNamed number (commandAt job offset))
+Matches job (accepted ps) f n memory = (f .answer ≡ Finished (n + length (allRows ps))) × (f .memory ≡ storedAll memory n (allRows ps))
 
 -- one placed command in front
-in-front : (p : Placed) (j : Job) (f : Final) (n : ℕ) (memory : List ℤ) (rows : List (List ℤ)) → rows ≡ rowsAt p →
-    Matches j f (n + length rows) (storedAll memory n rows) → Matches (before p j) f n memory
+in-front : (job : List ℕ) (p : Placed) (j : Job) (f : Final) (n : ℕ) (memory : List ℤ) (rows : List (List ℤ)) → Alike rows (rowsAt p) n memory →
+    Matches job j f (n + length rows) (storedAll memory n rows) → Matches job (before p j) f n memory
 unfolding allRows
-in-front p (refused number offset) f n memory rows e m = m
-in-front p (accepted ps) f n memory rows e m = (
-  m .0 ∙ ap Finished (count ∙ ap (λ (l : List (List ℤ)). n + length (l ++ allRows ps)) e),
-  m .1 ∙ sym (storedAll-append memory n rows (allRows ps)) ∙ ap (λ (l : List (List ℤ)). storedAll memory n (l ++ allRows ps)) e,
+in-front job p (refused number offset) f n memory rows a m = m
+in-front job p (accepted ps) f n memory rows a m = (
+  m .0 ∙ ap Finished count,
+  m .1 ∙ ap (λ (k : ℕ). storedAll (storedAll memory n rows) (n + k) (allRows ps)) (a .many)
+      ∙ ap (λ (l : List ℤ). storedAll l (n + length (rowsAt p)) (allRows ps)) (a .left) ∙ sym (storedAll-append memory n (rowsAt p) (allRows ps)),
 )
   where
-    count : n + length rows + length (allRows ps) ≡ n + length (rows ++ allRows ps)
-    count = omega (arith, length-append rows (allRows ps))
+    count : n + length rows + length (allRows ps) ≡ n + length (rowsAt p ++ allRows ps)
+    count = omega (arith, a .many, length-append (rowsAt p) (allRows ps))
 
-both-same : (n : ℕ) (memory : List ℤ) {j j′ : Job} {f f′ : Final} → j ≡ j′ → f ≡ f′ → Matches j′ f′ n memory → Matches j f n memory
-both-same n memory {j} {j′} {f} {f′} e g m = rw (e, g) m
+both-same : (job : List ℕ) (n : ℕ) (memory : List ℤ) {j j′ : Job} {f f′ : Final} → j ≡ j′ → f ≡ f′ → Matches job j′ f′ n memory → Matches job j f n memory
+both-same job n memory {j} {j′} {f} {f′} e g m = rw (e, g) m
 
 -- the walk goes on while the placed commands do
-pub record Going (n : ℕ) (job : List ℕ) (p : Place) (joints : List ℕ) (h : Held) : Type 0 where
+pub record Going (room : Bool) (n : ℕ) (job : List ℕ) (p : Place) (joints : JointTable) (memory : List ℤ) (h : Context) : Type 0 where
   pub bytes : Bytes job
-  pub shows : Shows (p .state) joints h
+  pub shows : Shows room (p .state) joints h
+  pub room-is : roomFor (length memory) ≡ room
   pub left : p .count + n ≡ 4097
   pub count : p .count ≤ 4096
   pub offset : p .offset ≤ length job
 
-going-on : (n : ℕ) (job : List ℕ) (p : Place) (joints : List ℕ) (h : Held) → Going (suc n) job p joints h → Faultless job (p .offset) (p .count) h → (byteAt job (p .offset) ≡ 0 → ⊥) →
-    Going n job (nextPlace job p joints) (nextJoints joints (commandAt job (p .offset))) (next h (commandAt job (p .offset)))
-unfolding nextPlace
-going-on n job p joints h g f b =
+going-on : (room : Bool) (n : ℕ) (job : List ℕ) (p : Place) (joints : JointTable) (memory : List ℤ) (h : Context) → Going room (suc n) job p joints memory h → Faultless job (p .offset) (p .count) h → (byteAt job (p .offset) ≡ 0 → ⊥) →
+    Going room n job (nextPlace room job p joints) (nextJoints room joints (commandAt job (p .offset))) (storedAll memory (p .rows) (rowsHere room job p joints)) (next h (commandAt job (p .offset)))
+unfolding nextPlace rowsHere
+going-on room n job p joints memory h g f b =
+    let c = commandAt job (p .offset) in
     record {
       bytes = g .bytes;
-      shows = shows-next (p .state) joints h (g .shows) (commandAt job (p .offset)) (ids-read job (p .offset) (g .bytes)) (in-place job p joints h (g .shows) f);
+      shows = shows-next room (p .state) joints h (g .shows) c (ids-read job (p .offset) (g .bytes)) (in-place room job p joints h (g .shows) f);
+      room-is = ap roomFor (stored-length memory (p .rows) (p .offset) (byteAt job (p .offset)) (rowsFrom (nextState room (p .state) c) (nextSums room (joints .sums) c) c)) ∙ g .room-is;
       left = omega (arith, g .left);
       count = omega (arith, count-below (byteAt job (p .offset)) (p .count) b (f .few));
       offset = f .whole;
     }
 
 -- one command, from what holds of the rest
-abbrev Simulates : ℕ → List ℕ → Type 0
-Simulates n job =
-    (p : Place) (joints : List ℕ) (memory : List ℤ) (h : Held) → Going n job p joints h →
-    Matches (placedFrom n job (p .offset) (p .count) h) (walkFrom n job p joints memory) (p .rows) memory
+abbrev Simulates : Bool → ℕ → List ℕ → Type 0
+Simulates room n job =
+    (p : Place) (joints : JointTable) (memory : List ℤ) (h : Context) → Going room n job p joints memory h →
+    Matches job (placedFrom n job (p .offset) (p .count) h) (walkFrom room n job p joints memory) (p .rows) memory
 
-step : (n : ℕ) (job : List ℕ) (p : Place) (joints : List ℕ) (memory : List ℤ) (h : Held) → Going (suc n) job p joints h → Simulates n job →
-    Matches (placedFrom (suc n) job (p .offset) (p .count) h) (walkFrom (suc n) job p joints memory) (p .rows) memory
+step : (room : Bool) (n : ℕ) (job : List ℕ) (p : Place) (joints : JointTable) (memory : List ℤ) (h : Context) → Going room (suc n) job p joints memory h → Simulates room n job →
+    Matches job (placedFrom (suc n) job (p .offset) (p .count) h) (walkFrom room (suc n) job p joints memory) (p .rows) memory
 unfolding nextPlace allRows storedAll
-step n job p joints memory h g ih = reached (decLe (length job) (p .offset))
+step room n job p joints memory h g ih = reached (decLe (length job) (p .offset))
   where
     rest : Final
-    rest = onward n job p joints memory
+    rest = onward room n job p joints memory
 
-    stepped : (f : Final) → outcome job p joints memory rest ≡ f → walkFrom (suc n) job p joints memory ≡ f
-    stepped f e = walk-step-suc job p joints memory n ∙ e
+    stepped : (f : Final) → outcome job p joints memory rest ≡ f → walkFrom room (suc n) job p joints memory ≡ f
+    stepped f e = walk-step-suc room job p joints memory n ∙ e
 
     same : faultFrom job p joints ≡ faultAt job (p .offset) (p .count) h
-    same = fault-same job p joints h (g .bytes) (g .shows)
+    same = fault-same room job p joints h (g .bytes) (g .shows)
 
     T : Type 0
-    T = Matches (placedFrom (suc n) job (p .offset) (p .count) h) (walkFrom (suc n) job p joints memory) (p .rows) memory
+    T = Matches job (placedFrom (suc n) job (p .offset) (p .count) h) (walkFrom room (suc n) job p joints memory) (p .rows) memory
 
     at-end : p .offset < length job → faultAt job (p .offset) (p .count) h ≡ 0 → byteAt job (p .offset) ≡ 0 → Dec (p .offset + 1 < length job) → T
-    at-end l e z (yes m) = both-same (p .rows) memory (placed-more n job (p .offset) (p .count) h l e z m) (stepped _ (more-bytes job p joints memory rest l (same ∙ e) z m)) refl
+    at-end l e z (yes m) = both-same job (p .rows) memory (placed-more n job (p .offset) (p .count) h l e z m) (stepped _ (more-bytes job p joints memory rest l (same ∙ e) z m)) refl
     at-end l e z (no m) =
-        both-same (p .rows) memory (placed-end n job (p .offset) (p .count) h l e z (omega arith)) (stepped _ (finished job p joints memory rest l (same ∙ e) z (omega arith)))
+        both-same job (p .rows) memory (placed-end n job (p .offset) (p .count) h l e z (omega arith)) (stepped _ (finished job p joints memory rest l (same ∙ e) z (omega arith)))
         (ap Finished (sym (add-zero (p .rows))), refl)
 
     no-fault : p .offset < length job → faultAt job (p .offset) (p .count) h ≡ 0 → Dec (byteAt job (p .offset) ≡ 0) → T
     no-fault l e (yes z) = at-end l e z (decLe (suc (p .offset + 1)) (length job))
     no-fault l e (no z) =
         let f = faultless job (p .offset) (p .count) h e in
-        both-same (p .rows) memory (placed-goes n job (p .offset) (p .count) h l e z) (stepped _ (goes-on job p joints memory rest l (same ∙ e) z))
-        (in-front (record { offset = p .offset; command = commandAt job (p .offset); held = h }) (placedFrom n job (afterCommand job (p .offset)) (p .count + 1) (next h (commandAt job (p .offset)))) rest (p .rows) memory
-        (rowsHere job p joints) (rows-placed job p joints h (g .bytes) (g .shows) f)
-        (ih (nextPlace job p joints) (nextJoints joints (commandAt job (p .offset))) (storedAll memory (p .rows) (rowsHere job p joints)) (next h (commandAt job (p .offset)))
-        (going-on n job p joints h g f z)))
+        both-same job (p .rows) memory (placed-goes n job (p .offset) (p .count) h l e z) (stepped _ (goes-on job p joints memory rest l (same ∙ e) z))
+        (in-front job (placedAt job (p .offset) h) (restAfter n job (p .offset) (p .count) h) rest (p .rows) memory
+        (rowsHere room job p joints) (rows-alike job p joints h (g .bytes) f memory room (g .room-is) (g .shows))
+        (ih (nextPlace room job p joints) (nextJoints room joints (commandAt job (p .offset))) (storedAll memory (p .rows) (rowsHere room job p joints)) (next h (commandAt job (p .offset)))
+        (going-on room n job p joints memory h g f z)))
 
     in-job : p .offset < length job → (k : ℕ) → faultAt job (p .offset) (p .count) h ≡ k → T
     in-job l zero e = no-fault l e (ℕ-discrete (byteAt job (p .offset)) 0)
-    in-job l (suc k) e = both-same (p .rows) memory (placed-fault n job (p .offset) (p .count) h l k e) (stepped _ (faulty job p joints memory rest k l (same ∙ e))) refl
+    in-job l (suc k) e = both-same job (p .rows) memory (placed-fault n job (p .offset) (p .count) h l k e) (stepped _ (faulty job p joints memory rest l k (same ∙ e))) refl
 
     reached : Dec (length job ≤ p .offset) → T
     reached (yes l) =
-        both-same (p .rows) memory (placed-none n job (p .offset) (p .count) h l) (stepped _ (no-end job p joints memory rest l)) (ap (Refused 1) (omega (arith, g .offset)))
+        both-same job (p .rows) memory (placed-none n job (p .offset) (p .count) h l) (stepped _ (no-end job p joints memory rest l)) (ap (λ (o : ℕ). Refused 1 o 0) (omega (arith, g .offset)))
     reached (no l) = in-job (omega arith) (faultAt job (p .offset) (p .count) h) refl
 
-pub simulates : (n : ℕ) (job : List ℕ) → Simulates n job
-simulates zero job p joints memory h g = absurd (none (p .count) (g .left) (g .count))
+pub simulates : (room : Bool) (n : ℕ) (job : List ℕ) → Simulates room n job
+simulates room zero job p joints memory h g = absurd (none (p .count) (g .left) (g .count))
   where
     none : (k : ℕ) → k + 0 ≡ 4097 → k ≤ 4096 → ⊥
     none k c l = omega arith
-simulates (suc n) job p joints memory h g = step n job p joints memory h g (simulates n job)
+simulates room (suc n) job p joints memory h g = step room n job p joints memory h g (simulates room n job)

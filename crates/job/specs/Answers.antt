@@ -1,14 +1,15 @@
--- The answers of the calls in 01's terms: whether the job is accepted, the refusal's number and offset (0 where there is
--- none), and a number of rows. "Row counts are 0
--- in every refusal but 9".
+-- The answers of the calls in 01's terms: whether the job is accepted, the refusal's number and offset (0 where there is none),
+-- and a number of rows ("Row counts are 0 in every refusal but 9"); and the operand at fault.
 use mathlib.Core.Bool.{Bool, true, false}
 use Prim.Native.Nat.{ℕ}
 use lib.ListN.{length}
 use mathlib.Core.List.{List}
 use Rattle.job.specs.declared.RowCount.{RowCount}
 use Rattle.job.specs.declared.RowCount.the-variants.{Rows, Refused}
-use Rattle.job.specs.declared.Walked.{Walked}
-use Rattle.job.specs.declared.Walked.the-variants as Walked
+use Rattle.layout.specs.Operands.{byteAt}
+use Rattle.format.specs.Reading.{commandAt}
+use Rattle.job.specs.declared.FaultAnswer.{FaultAnswer}
+use Rattle.job.specs.Faults.{operandNamed}
 use Rattle.job.specs.Placed.{Job, refused, accepted, placed, allRows}
 
 pub record Answer : Type 0 where
@@ -28,12 +29,6 @@ abbrev pub rowCountAnswer : RowCount → Answer
 rowCountAnswer (Rows n) = rowsAnswer n
 rowCountAnswer (Refused number offset) = refusedAnswer number offset
 
--- and that of a walk; one from the start ends within 4,097 commands and never pauses
-abbrev pub walkedAnswer : Walked → Answer
-walkedAnswer (Walked.Refused number offset) = refusedAnswer number offset
-walkedAnswer (Walked.Finished n) = rowsAnswer n
-walkedAnswer (Walked.Paused p) = refusedAnswer 8 0
-
 -- what size answers: the job's row count, or the refusal
 abbrev pub sizeFrom : Job → Answer
 sizeFrom (refused number offset) = refusedAnswer number offset
@@ -42,3 +37,14 @@ sizeFrom (accepted ps) = rowsAnswer (length (allRows ps))
 unfoldable pub sizeOf : List ℕ → Answer
 unfolding placed
 sizeOf job = sizeFrom (placed job)
+
+-- what fault answers: number and offset of the refusal as size has them; the byte that stands at the offset, 0 where none does (a
+-- missing end is refused at the file's length); and the operand that the refusal names. Where the job is accepted all are 0.
+abbrev pub faultIn : List ℕ → Job → FaultAnswer
+faultIn job (refused number offset) =
+    record { number = number; offset = offset; command = byteAt job offset; operand = operandNamed number (commandAt job offset) }
+faultIn job (accepted ps) = record { number = 0; offset = 0; command = 0; operand = 0 }
+
+unfoldable pub faultOf : List ℕ → FaultAnswer
+unfolding placed
+faultOf job = faultIn job (placed job)

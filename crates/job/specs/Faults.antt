@@ -4,10 +4,12 @@ use mathlib.Core.List.{List, [], _∷_}
 use Prim.Native.Nat.{ℕ, _+_}
 use lib.Dec.{eqb, leb, ltb}
 use lib.ListN.{length}
-use Rattle.format.specs.Layouts.{known, operandsWidth}
-use Rattle.format.specs.Commands.{Command, inRange}
-use Rattle.format.specs.Reading.{byteAt, commandAt}
-use Rattle.held.specs.Held.{Held, given, absent, repeated}
+use Rattle.layout.specs.Layouts.{known, operandsWidth}
+use Rattle.format.specs.declared.Command.{Command}
+use Rattle.format.specs.Commands.{inRange, operandAtFault}
+use Rattle.layout.specs.Operands.{byteAt}
+use Rattle.format.specs.Reading.{commandAt}
+use Rattle.context.specs.Context.{Context, given, absent, repeated}
 
 -- 2: unknown command
 abbrev pub unknown : List ℕ → ℕ → Bool
@@ -39,7 +41,7 @@ firstOf [] = 0
 firstOf (t ∷ ts) = cond (t .0) (t .1) (firstOf ts)
 
 -- 6 and 7 are `absent` and `repeated`
-unfoldable pub faultAt : List ℕ → ℕ → ℕ → Held → ℕ
+unfoldable pub faultAt : List ℕ → ℕ → ℕ → Context → ℕ
 faultAt job at count h =
     firstOf
     ((unknown job at, 2)
@@ -50,3 +52,7 @@ faultAt job at count h =
     ∷ (absent h (commandAt job at), 6)
     ∷ (repeated h (commandAt job at), 7)
     ∷ [])
+
+-- the operand that a refusal names: for 5 the operand at fault, counted from 0; 0 in every other refusal
+abbrev pub operandNamed : ℕ → Command → ℕ
+operandNamed number c = cond (eqb number 5) (operandAtFault c) 0

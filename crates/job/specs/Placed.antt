@@ -1,4 +1,4 @@
--- The placed commands of a job, from its bytes alone: each command with its offset and what holds at it, or the refusal.
+-- The placed commands of a job, from its bytes alone: each command with its offset and its context, or the refusal.
 -- Rows and exact values are both made from this list. 01, "Who can make a job fail".
 use mathlib.Core.Bool.{cond}
 use mathlib.Core.List.{List, [], _∷_, _++_, map}
@@ -6,16 +6,18 @@ use Prim.Native.Nat.{ℕ, zero, suc, _+_}
 use lib.Dec.{eqb, leb, ltb}
 use lib.IntN.{ℤ}
 use lib.ListN.{length}
-use Rattle.format.specs.Commands.{Command, byteOf}
-use Rattle.format.specs.Reading.{byteAt, commandAt}
-use Rattle.held.specs.Held.{Held, nothing, next}
-use Rattle.held.specs.Rows.{rowsOf, words}
+use Rattle.format.specs.declared.Command.{Command}
+use Rattle.format.specs.Commands.{byteOf}
+use Rattle.layout.specs.Operands.{byteAt}
+use Rattle.format.specs.Reading.{commandAt}
+use Rattle.context.specs.Context.{Context, nothing, next}
+use Rattle.rows.specs.Rows.{rowsOf, words}
 use Rattle.job.specs.Faults.{faultAt, afterCommand}
 
 pub record Placed : Type 0 where
   pub offset : ℕ
   pub command : Command
-  pub held : Held
+  pub context : Context
 
 pub data Job : Type 0 where
   -- number and offset
@@ -30,13 +32,13 @@ before p (accepted ps) = accepted (p ∷ ps)
 -- From an offset on, after `count` commands, with what holds there. No end is refusal 1 at the file's length, bytes after the
 -- end are refusal 3 at the first. The first number is how many commands may still be read: a 4,097th is refused, so 4,097 of
 -- them and the end are enough from the start, and with none left the answer is that refusal.
-unfoldable pub placedFrom : ℕ → List ℕ → ℕ → ℕ → Held → Job
+unfoldable pub placedFrom : ℕ → List ℕ → ℕ → ℕ → Context → Job
 unfolding faultAt
 placedFrom zero job at count h = refused 8 at
 placedFrom (suc n) job at count h =
     let fault = faultAt job at count h in
     let rest = placedFrom n job (afterCommand job at) (count + 1) (next h (commandAt job at)) in
-    let goes = before (record { offset = at; command = commandAt job at; held = h }) rest in
+    let goes = before (record { offset = at; command = commandAt job at; context = h }) rest in
     cond (leb (length job) at) (refused 1 (length job))
     (cond (ltb 0 fault) (refused fault at)
     (cond (eqb (byteAt job at) 0) (cond (ltb (at + 1) (length job)) (refused 3 (at + 1)) (accepted []))
@@ -50,7 +52,7 @@ placed job = placedFrom 4097 job 0 0 nothing
 
 -- the rows of one, each of eight words
 abbrev pub rowsAt : Placed → List (List ℤ)
-rowsAt p = map (words (p .offset) (byteOf (p .command))) (rowsOf (p .held) (p .command))
+rowsAt p = map (words (p .offset) (byteOf (p .command))) (rowsOf (p .context) (p .command))
 
 unfoldable pub allRows : List Placed → List (List ℤ)
 allRows [] = []

@@ -1,19 +1,36 @@
--- The walk in the shape of the code. proofs/ joins it to the placed commands.
-use mathlib.Core.Bool.{cond}
+-- The walk in the shape of the code. proofs/ joins it to the placed commands. `room` tells whether rows are to be written.
+use mathlib.Core.Path.{_≡_}
+use mathlib.Core.Bool.{Bool, not, cond}
 use mathlib.Core.List.{List, [], _∷_, map}
 use Prim.Native.Nat.{ℕ, zero, suc, _+_, _≤_}
 use lib.Dec.{eqb, leb, ltb}
 use lib.IntN.{ℤ}
 use lib.ListN.{length}
-use Rattle.format.specs.Reading.{byteAt, commandAt}
-use Rattle.held.specs.Running.{startState, nextState, nextJoints, absentIn, repeatedIn, rowsFrom, storedAll, SoundState, SoundJoints}
-use Rattle.held.specs.Rows.{words}
-use Rattle.job.specs.Faults.{unknown, afterCommand, cutShort, tooMany, misplaced, outOfRange, firstOf}
+use Rattle.layout.specs.Layouts.{known, operandsWidth}
+use Rattle.layout.specs.Operands.{byteAt}
+use Rattle.format.specs.Reading.{commandAt}
+use Rattle.context.specs.Running.{JointTable, startState, nextState, nextSums, nextJoints, absentIn, repeatedIn, SoundState, SoundSums}
+use Rattle.rows.specs.Rows.{words}
+use Rattle.rows.specs.Writing.{rowsFrom, storedAll}
 use Rattle.job.specs.declared.Place.{Place}
 use Rattle.job.specs.declared.Walked.{Walked}
 use Rattle.job.specs.declared.Walked.the-variants.{Refused, Finished, Paused}
+use Rattle.job.specs.declared.FaultAnswer.{FaultAnswer}
+use Rattle.job.specs.Faults.{unknown, afterCommand, cutShort, tooMany, misplaced, outOfRange, firstOf, operandNamed}
+use Rattle.job.specs.Answers.{Answer, rowsAnswer, refusedAnswer}
 
-unfoldable pub faultFrom : List ℕ → Place → List ℕ → ℕ
+-- the tests that need a command's byte alone: by the job's length, the command's offset and byte, the commands before it, and
+-- whether settings are given
+unfoldable pub earlyFault : ℕ → ℕ → ℕ → ℕ → Bool → ℕ
+earlyFault bytes at byte count settingsGiven =
+    firstOf
+    ((not (known byte), 2)
+    ∷ (ltb bytes (at + 1 + operandsWidth byte), 1)
+    ∷ (tooMany byte count, 8)
+    ∷ (misplaced byte settingsGiven, 4)
+    ∷ [])
+
+unfoldable pub faultFrom : List ℕ → Place → JointTable → ℕ
 faultFrom job p joints =
     firstOf
     ((unknown job (p .offset), 2)
@@ -21,56 +38,70 @@ faultFrom job p joints =
     ∷ (tooMany (byteAt job (p .offset)) (p .count), 8)
     ∷ (misplaced (byteAt job (p .offset)) (p .state .given), 4)
     ∷ (outOfRange (commandAt job (p .offset)), 5)
-    ∷ (absentIn (p .state) joints (commandAt job (p .offset)), 6)
-    ∷ (repeatedIn joints (commandAt job (p .offset)), 7)
+    ∷ (absentIn (p .state) (joints .given) (commandAt job (p .offset)), 6)
+    ∷ (repeatedIn (joints .given) (commandAt job (p .offset)), 7)
     ∷ [])
 
 pub record Final : Type 0 where
   pub answer : Walked
-  pub joints : List ℕ
+  pub joints : JointTable
   pub memory : List ℤ
 
--- the rows of the command at a place, off what holds after it
-unfoldable pub rowsHere : List ℕ → Place → List ℕ → List (List ℤ)
-rowsHere job p joints =
+-- the rows of the command at a place, off the state and the sums after it
+unfoldable pub rowsHere : Bool → List ℕ → Place → JointTable → List (List ℤ)
+rowsHere room job p joints =
     let c = commandAt job (p .offset) in
-    map (words (p .offset) (byteAt job (p .offset))) (rowsFrom (nextState (p .state) c) (nextJoints joints c) c)
+    map (words (p .offset) (byteAt job (p .offset))) (rowsFrom (nextState room (p .state) c) (nextSums room (joints .sums) c) c)
 
-unfoldable pub nextPlace : List ℕ → Place → List ℕ → Place
+unfoldable pub nextPlace : Bool → List ℕ → Place → JointTable → Place
 unfolding rowsHere
-nextPlace job p joints =
+nextPlace room job p joints =
     record {
       offset = afterCommand job (p .offset);
       count = p .count + 1;
-      rows = p .rows + length (rowsHere job p joints);
-      state = nextState (p .state) (commandAt job (p .offset));
+      rows = p .rows + length (rowsHere room job p joints);
+      state = nextState room (p .state) (commandAt job (p .offset));
     }
 
 -- the outcome at a place, with what follows handed in
-unfoldable pub outcome : List ℕ → Place → List ℕ → List ℤ → Final → Final
+unfoldable pub outcome : List ℕ → Place → JointTable → List ℤ → Final → Final
 unfolding faultFrom
 outcome job p joints memory rest =
     let stop : Walked → Final = λ a. record { answer = a; joints = joints; memory = memory } in
-    cond (leb (length job) (p .offset)) (stop (Refused 1 (p .offset)))
-    (cond (ltb 0 (faultFrom job p joints)) (stop (Refused (faultFrom job p joints) (p .offset)))
+    let fault = faultFrom job p joints in
+    cond (leb (length job) (p .offset)) (stop (Refused 1 (p .offset) 0))
+    (cond (ltb 0 fault) (stop (Refused fault (p .offset) (operandNamed fault (commandAt job (p .offset)))))
     (cond (eqb (byteAt job (p .offset)) 0)
-    (cond (ltb (p .offset + 1) (length job)) (stop (Refused 3 (p .offset + 1))) (stop (Finished (p .rows))))
+    (cond (ltb (p .offset + 1) (length job)) (stop (Refused 3 (p .offset + 1) 0)) (stop (Finished (p .rows))))
     rest))
 
-unfoldable pub walkFrom : ℕ → List ℕ → Place → List ℕ → List ℤ → Final
+unfoldable pub walkFrom : Bool → ℕ → List ℕ → Place → JointTable → List ℤ → Final
 unfolding outcome nextPlace rowsHere
-walkFrom zero job p joints memory = record { answer = Paused p; joints = joints; memory = memory }
-walkFrom (suc n) job p joints memory =
+walkFrom room zero job p joints memory = record { answer = Paused p; joints = joints; memory = memory }
+walkFrom room (suc n) job p joints memory =
     outcome job p joints memory
-    (walkFrom n job (nextPlace job p joints) (nextJoints joints (commandAt job (p .offset))) (storedAll memory (p .rows) (rowsHere job p joints)))
+    (walkFrom room n job (nextPlace room job p joints) (nextJoints room joints (commandAt job (p .offset))) (storedAll memory (p .rows) (rowsHere room job p joints)))
 
 -- the start of a job
 unfoldable pub firstPlace : Place
 firstPlace = record { offset = 0; count = 0; rows = 0; state = startState }
 
-pub record WalkAsks (job : List ℕ) (p : Place) (joints : List ℕ) (budget : ℕ) : Type 0 where
+pub record WalkAsks (job : List ℕ) (p : Place) (joints : JointTable) (room : Bool) : Type 0 where
   pub state : SoundState (p .state)
-  pub table : SoundJoints joints
+  pub given : length (joints .given) ≡ 256
+  pub sums : SoundSums room (joints .sums)
   pub offset : p .offset ≤ length job
   pub count : p .count ≤ 4096
   pub rows : p .rows ≤ p .count + p .count
+
+-- ---- the answers of a walk; one from the start ends within 4,097 commands and never pauses
+
+abbrev pub walkedAnswer : Walked → Answer
+walkedAnswer (Refused number offset operand) = refusedAnswer number offset
+walkedAnswer (Finished n) = rowsAnswer n
+walkedAnswer (Paused p) = refusedAnswer 8 0
+
+abbrev pub walkedFault : List ℕ → Walked → FaultAnswer
+walkedFault job (Refused number offset operand) = record { number = number; offset = offset; command = byteAt job offset; operand = operand }
+walkedFault job (Finished n) = record { number = 0; offset = 0; command = 0; operand = 0 }
+walkedFault job (Paused p) = record { number = 8; offset = 0; command = 0; operand = 0 }

@@ -1,10 +1,14 @@
 // The walk over a job's commands: every fault in 01's order, what holds, and the rows where there is room.
-use held::State;
+use context::State;
 ghost use mathlib.Core.Path.{_≡_};
-ghost use Rattle.cubes.specs.Cube.{IsCubes};
+ghost use Prim.Native.Nat.{_<_};
+ghost use lib.ListN.{length};
+ghost use Rattle.context.specs.Running.{roomFor};
+ghost use Rattle.layout.specs.Operands.{byteAt};
+ghost use Rattle.cubes.specs.Cube.{LentCubes};
 ghost use Rattle.job.specs.Faults.{tooMany, misplaced};
-ghost use Rattle.job.specs.Walking.{firstPlace, walkFrom, WalkAsks};
-ghost use Rattle.job.specs.Answers.{rowCountAnswer, walkedAnswer, sizeOf};
+ghost use Rattle.job.specs.Walking.{earlyFault, firstPlace, walkFrom, WalkAsks, walkedAnswer, walkedFault};
+ghost use Rattle.job.specs.Answers.{rowCountAnswer, sizeOf, faultOf};
 
 // Where the walk stands: the offset of the next command, the commands and the rows so far, and what holds.
 pub struct Place {
@@ -15,15 +19,32 @@ pub struct Place {
 }
 
 pub enum Walked {
-    Refused(u32, usize),
+    // Number, offset, and the operand named.
+    Refused(u32, usize, u32),
+    // The rows.
     Finished(usize),
     Paused(Place),
+}
+
+// A walk: how it ended, and whether it passed a storey. No promise rests on the latter: it only tells whether the table of cubes
+// is worth making before the rows are written.
+pub struct WalkEnd {
+    pub ended: Walked,
+    pub storeys: bool,
 }
 
 // The answer of size.
 pub enum RowCount {
     Rows(usize),
     Refused(u32, usize),
+}
+
+// The answer of fault: the refusal's number and offset, the byte at the offset, and the operand named.
+pub struct FaultAnswer {
+    pub number: u32,
+    pub offset: usize,
+    pub command: u8,
+    pub operand: u32,
 }
 
 // Refusal 8.
@@ -40,24 +61,49 @@ fn misplaced_settings(command: u8, given: bool) -> bool
     if given { command == 1 } else { command != 1 }
 }
 
+// The refusals 2, 1, 8 and 4 of the command at an offset of a job of so many bytes, in this order; 0 where none is due.
+fn early_fault(bytes: usize, offset: usize, command: u8, count: u32, given: bool) -> u32
+    requires { ⌜ offset < bytes ⌝ }
+    ensures { λ r. ⌜ r ≡ earlyFault bytes offset command count given ⌝ }
+{
+    if !layout::known(command) {
+        return 2;
+    }
+    if bytes - offset <= layout::operands_width(command) {
+        return 1;
+    }
+    if too_many(command, count) {
+        return 8;
+    }
+    if misplaced_settings(command, given) {
+        4
+    } else {
+        0
+    }
+}
+
+// From a place on, at most so many commands. `given` and `sums` are the joints' tables, `table` the cubes where they are lent.
 pub fn walk(
     job: &[u8],
     start: Place,
     budget: u32,
-    joints: &mut [u32],
-    table: &[u64; 1001],
+    given: &mut [u8],
+    sums: &mut [u32],
+    table: &[u64],
     rows: &mut [i64],
-) -> Walked
-    requires table { ⌜ IsCubes (now table) ⌝ }
-    requires asks { ⌜ WalkAsks (now job) start (now joints) budget ⌝ }
-    ensures { λ r. ⌜ walkFrom budget (now (job .entry)) start (now (joints .entry)) (now (rows .entry)) ≡ record { answer = r; joints = now (joints .exit); memory = now (rows .exit) } ⌝ }
+) -> WalkEnd
+    requires table { ⌜ LentCubes (now table) ⌝ }
+    requires asks { ⌜ WalkAsks (now job) start (record { given = now given; sums = now sums }) (roomFor (length (now rows))) ⌝ }
+    ensures { λ r. ⌜ walkFrom (roomFor (length (now (rows .entry)))) budget (now (job .entry)) start (record { given = now (given .entry); sums = now (sums .entry) }) (now (rows .entry)) ≡ record { answer = r .ended; joints = record { given = now (given .exit); sums = now (sums .exit) }; memory = now (rows .exit) } ⌝ }
 {
+    let room = 8 <= rows.len();
     let mut offset = start.offset;
     let mut count = start.count;
     let mut written = start.rows;
     let mut state = start.state;
     let mut left = budget;
-    let answer = 'walk: loop {
+    let mut storeys = false;
+    let ended = 'walk: loop {
         if left == 0 {
             break 'walk Walked::Paused(Place {
                 offset,
@@ -67,68 +113,50 @@ pub fn walk(
             });
         }
         if job.len() <= offset {
-            break 'walk Walked::Refused(1, offset);
+            break 'walk Walked::Refused(1, offset, 0);
         }
-        let command = job[offset];
-        if !format::known(command) {
-            break 'walk Walked::Refused(2, offset);
+        let byte = job[offset];
+        let early = early_fault(job.len(), offset, byte, count, state.given);
+        if early != 0 {
+            break 'walk Walked::Refused(early, offset, 0);
         }
-        if job.len() - offset <= format::operands_width(command) {
-            break 'walk Walked::Refused(1, offset);
-        }
-        if too_many(command, count) {
-            break 'walk Walked::Refused(8, offset);
-        }
-        if misplaced_settings(command, state.given) {
-            break 'walk Walked::Refused(4, offset);
-        }
-        let operand_count = format::operand_count(command);
-        let mut operands = [0u32; 16];
-        let mut place = 0;
-        let mut at = offset + 1;
-        while place < operand_count {
-            let form = format::form_of(command, place);
-            let width = format::form_width(form);
-            let value = format::number(job, at, width);
-            if !format::in_range(form, value) {
-                break 'walk Walked::Refused(5, offset);
+        let command = format::read(job, offset, byte);
+        if !format::command_in_range(command) {
+            let operand_count = layout::operand_count(byte);
+            let mut place = 0;
+            let mut at = offset + 1;
+            while place < operand_count {
+                let form = layout::form_of(byte, place);
+                let width = layout::form_width(form);
+                if !layout::in_range(form, layout::number(job, at, width)) {
+                    break 'walk Walked::Refused(5, offset, place as u32);
+                }
+                place += 1;
+                at += width;
             }
-            operands[place] = value;
-            place += 1;
-            at += width;
+            break 'walk Walked::Refused(5, offset, format::relation_names(byte));
         }
-        if !format::related(command, &operands) {
-            break 'walk Walked::Refused(5, offset);
+        if context::absent(state, &*given, command) {
+            break 'walk Walked::Refused(6, offset, 0);
         }
-        if held::absent(state, &*joints, command, &operands) {
-            break 'walk Walked::Refused(6, offset);
+        if context::repeated(&*given, command) {
+            break 'walk Walked::Refused(7, offset, 0);
         }
-        if held::repeated(&*joints, command, &operands) {
-            break 'walk Walked::Refused(7, offset);
-        }
-        if command == 0 {
+        if byte == 0 {
             if offset + 1 < job.len() {
-                break 'walk Walked::Refused(3, offset + 1);
+                break 'walk Walked::Refused(3, offset + 1, 0);
             }
             break 'walk Walked::Finished(written);
         }
-        state = held::next(state, command, &operands);
-        held::hold_joint(joints, command, &operands);
-        written = held::emit(
-            rows,
-            written,
-            offset,
-            state,
-            &*joints,
-            table,
-            command,
-            &operands,
-        );
-        offset = at;
+        state = context::next(state, room, command);
+        context::hold_joint(given, sums, room, command);
+        written = rows::emit(rows, written, offset, state, &*sums, table, command);
+        storeys = storeys | (byte == 7);
+        offset = offset + 1 + layout::operands_width(byte);
         count += 1;
         left -= 1;
     };
-    answer
+    WalkEnd { ended, storeys }
 }
 
 // The start of a job.
@@ -139,36 +167,88 @@ pub fn first_place() -> Place
         offset: 0,
         count: 0,
         rows: 0,
-        state: held::start(),
+        state: context::start(),
     }
 }
 
-// The answer of a walk that has ended.
+// A walk over a whole job, with no room for rows.
+pub fn pass(job: &[u8]) -> WalkEnd
+    ensures size { λ r. ⌜ walkedAnswer (r .ended) ≡ sizeOf (now (job .entry)) ⌝ }
+    ensures fault { λ r. ⌜ walkedFault (now (job .entry)) (r .ended) ≡ faultOf (now (job .entry)) ⌝ }
+{
+    let mut given = [0u8; 256];
+    let mut sums = [0u32; 1];
+    let table = [0u64; 1];
+    let mut rows = [0i64; 1];
+    walk(
+        job,
+        first_place(),
+        4097,
+        &mut given,
+        &mut sums[..0],
+        &table[..0],
+        &mut rows[..0],
+    )
+}
+
+// The row count of a walk that has ended.
 fn row_count(walked: Walked) -> RowCount
     ensures { λ r. ⌜ rowCountAnswer r ≡ walkedAnswer walked ⌝ }
 {
     match walked {
         Walked::Finished(n) => RowCount::Rows(n),
-        Walked::Refused(number, offset) => RowCount::Refused(number, offset),
+        Walked::Refused(number, offset, _) => RowCount::Refused(number, offset),
         Walked::Paused(_) => RowCount::Refused(8, 0),
     }
-}
-
-// A job's row count, or its refusal, by a walk with no room for rows; the table of cubes is lent.
-pub fn count(job: &[u8], table: &[u64; 1001]) -> RowCount
-    requires { ⌜ IsCubes (now table) ⌝ }
-    ensures { λ r. ⌜ rowCountAnswer r ≡ sizeOf (now (job .entry)) ⌝ }
-{
-    let mut joints = [0u32; 1024];
-    let mut rows = [0i64; 1];
-    let walked = walk(job, first_place(), 4097, &mut joints, table, &mut rows[..0]);
-    row_count(walked)
 }
 
 // A job's row count, or its refusal.
 pub fn size(job: &[u8]) -> RowCount
     ensures { λ r. ⌜ rowCountAnswer r ≡ sizeOf (now (job .entry)) ⌝ }
 {
-    let table = cubes::table();
-    count(job, &table)
+    let walk = pass(job);
+    let ended = walk.ended;
+    row_count(ended)
+}
+
+// The byte at an offset, 0 where none stands there.
+fn byte_at(job: &[u8], offset: usize) -> u8
+    ensures { λ r. ⌜ r ≡ byteAt (now (job .entry)) offset ⌝ }
+{
+    if offset < job.len() { job[offset] } else { 0 }
+}
+
+// The fault of a walk that has ended.
+fn fault_of(job: &[u8], walked: Walked) -> FaultAnswer
+    ensures { λ r. ⌜ r ≡ walkedFault (now (job .entry)) walked ⌝ }
+{
+    match walked {
+        Walked::Finished(_) => FaultAnswer {
+            number: 0,
+            offset: 0,
+            command: 0,
+            operand: 0,
+        },
+        Walked::Refused(number, offset, operand) => FaultAnswer {
+            number,
+            offset,
+            command: byte_at(job, offset),
+            operand,
+        },
+        Walked::Paused(_) => FaultAnswer {
+            number: 8,
+            offset: 0,
+            command: 0,
+            operand: 0,
+        },
+    }
+}
+
+// The fault of a job, with the operand at fault; all 0 where it is accepted.
+pub fn fault(job: &[u8]) -> FaultAnswer
+    ensures { λ r. ⌜ r ≡ faultOf (now (job .entry)) ⌝ }
+{
+    let walk = pass(job);
+    let ended = walk.ended;
+    fault_of(job, ended)
 }

@@ -1,5 +1,6 @@
 // The listing program: a job on standard input, its listing on standard output. 01, "Figures to hold to".
 use input::Input;
+use libc::STDERR_FILENO;
 use libc::STDIN_FILENO;
 use libc::STDOUT_FILENO;
 ghost use Prim.Native.Nat.{_≤_};
@@ -28,7 +29,19 @@ fn list(buffer: &mut [u8]) {
 }
 
 // One byte more than the greatest job, so that a longer input is seen.
-fn main() {
+fn list_input() {
     let mut buffer = [0u8; 65537];
     list(&mut buffer);
+}
+
+// An argument names no job. The program says so and ends: it neither waits for a terminal nor lists another file than the one named.
+fn main() {
+    if os::arg_count() > 1 {
+        io::write_all(
+            STDERR_FILENO,
+            b"listing: takes no argument; a job is read from standard input: listing < FILE\n",
+        );
+    } else {
+        list_input();
+    }
 }

@@ -5,7 +5,7 @@ use coefficient::Quotient;
 use coefficient::Settings;
 ghost use mathlib.Core.Path.{_≡_};
 ghost use mathlib.Core.Bool.{_||_, _&&_};
-ghost use Prim.Native.Nat.{_+_, _*_, _≤_, max, min};
+ghost use Prim.Native.Nat.{_+_, _*_, _≤_, min};
 ghost use lib.Dec.{eqb};
 ghost use lib.IntN.{pos, negℤ};
 ghost use lib.Signed.{ltZ};
@@ -65,13 +65,6 @@ pub struct Detail {
     pub yielded: u32,
     pub ductility: u32,
     pub lap: u32,
-}
-
-// The larger of two.
-fn larger(a: u64, b: u64) -> u64
-    ensures { λ r. ⌜ r ≡ max a b ⌝ }
-{
-    if a < b { b } else { a }
 }
 
 // The smaller of two.
@@ -152,7 +145,7 @@ pub fn column_row(behaviour: u32, c: Column) -> Row
     requires { ⌜ ColumnRange behaviour c ⌝ }
     ensures { λ r. ⌜ r ≡ columnRow behaviour c ⌝ }
 {
-    let sum = larger(
+    let sum = exact::larger(
         (c.plus1 as u64) + (c.plus2 as u64),
         (c.minus1 as u64) + (c.minus2 as u64),
     );
@@ -245,7 +238,7 @@ fn lap_at_wall_base(place: u32, lap: u32) -> bool
 fn detail_bits(exceeded: bool, lap: bool) -> i64
     ensures { λ r. ⌜ r ≡ pos (flag 32 exceeded + flag 64 lap) ⌝ }
 {
-    claims::word(claims::failed_bit(32, exceeded) + claims::failed_bit(64, lap))
+    claims::word(claims::verdict_of(32, exceeded, 64, lap))
 }
 
 // xu·mu against 175·(1000 − xy), and the lap.

@@ -18,12 +18,7 @@ pub struct Length(pub u32);
 pub fn magnitude(value: i32) -> u32
     ensures { λ r. ⌜ r ≡ natAbs value ⌝ }
 {
-    let wide = value as i64;
-    if wide < 0 {
-        (0 - wide) as u32
-    } else {
-        wide as u32
-    }
+    exact::magnitude(exact::long(value)) as u32
 }
 
 // Both ends included.

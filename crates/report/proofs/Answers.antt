@@ -11,7 +11,7 @@ use lib.IntN.{ℤ}
 use lib.ListN.{length, drop, length-append, length-drop}
 use Rattle.text.specs.Lines.{refusedLine}
 use Rattle.text.specs.Written.{WritesAtMost}
-use Rattle.held.specs.Running.{joined}
+use Rattle.rows.specs.Writing.{joined}
 use Rattle.job.specs.Placed.{Placed, Job, refused, accepted, placed, allRows}
 use Rattle.job.specs.Answers.{Answer, rowsAnswer, refusedAnswer}
 use Rattle.capacity.specs.Calls.{tooShortAnswer, runFrom, runOf, rowsFrom, rowsAfter}

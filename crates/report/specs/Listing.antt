@@ -8,7 +8,7 @@ use lib.IntN.{ℤ}
 use lib.ListN.{length}
 use Rattle.text.specs.Lines.{refusedLine, listingText}
 use Rattle.totals.specs.Total.{totalOf}
-use Rattle.held.specs.Running.{joined}
+use Rattle.rows.specs.Writing.{joined}
 use Rattle.job.specs.Placed.{Job, refused, accepted, placed, allRows}
 
 -- the bytes of a job, and the rows, that the buffers hold

@@ -3,7 +3,6 @@
 ghost use mathlib.Core.Path.{_≡_};
 ghost use mathlib.Core.List.{[], _∷_, _++_};
 ghost use Prim.Native.Nat.{_+_, _*_, _<_, _≤_};
-ghost use lib.IntN.{natAbs};
 ghost use lib.ListN.{length};
 ghost use Rattle.text.specs.Decimal.{digit, decimal, signedDecimal};
 ghost use Rattle.text.specs.Lines.{rowLine, rowWords, rowsText, totalsLine, refusedLine, listingText};
@@ -47,23 +46,12 @@ pub fn put_decimal(out: &mut [u8], at: usize, value: u64) -> usize
     end
 }
 
-// The size of a signed number, without its sign; a negative one is counted from -1, so that the least i64 fits too.
-pub fn size(value: i64) -> u64
-    ensures { λ r. ⌜ r ≡ natAbs value ⌝ }
-{
-    if value < 0 {
-        (-1 - value) as u64 + 1
-    } else {
-        value as u64
-    }
-}
-
 // A signed number.
 pub fn put_signed(out: &mut [u8], at: usize, value: i64) -> usize
     requires { ⌜ at + length (signedDecimal value) ≤ length (now out) ⌝ }
     ensures { λ r. ⌜ Writes (now (out .entry)) at (signedDecimal value) (now (out .exit)) r ⌝ }
 {
-    let number = size(value);
+    let number = exact::magnitude(value);
     if value < 0 {
         out[at] = b'-';
         put_decimal(out, at + 1, number)

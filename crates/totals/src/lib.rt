@@ -31,19 +31,13 @@ fn row_failed(verdict: i64) -> u64
     if verdict == 0 { 0 } else { 1 }
 }
 
-// A count of ones as a word of 64 bits.
-fn wide(count: u32) -> u64
-    ensures { λ r. ⌜ r ≡ count ⌝ }
-{
-    count as u64
-}
-
-// The checks that failed in a row: the ones of its verdict.
+// The checks that failed in a row: the ones of its verdict, which in its range has eight bits.
 fn checks_failed(verdict: i64) -> u64
     requires { ⌜ goodVerdict verdict ≡ true ⌝ }
     ensures { λ r. ⌜ r ≡ checksOf verdict ⌝ }
 {
-    wide(u64::count_ones(verdict as u64))
+    let ones = u8::count_ones(verdict as u8);
+    ones as u64
 }
 
 // The totals of the first n rows. 8·n may not fit a word, so the slice's whole rows are compared with n. The slice is lent to be

@@ -2,4 +2,3 @@
 pub mod Base
 pub mod Storey
 pub mod Running
-pub mod Words

@@ -1,15 +1,13 @@
 // Wall base (B.4) and storeys (B.5, B.6). The values that the storeys need of their base, a, W and MR, are computed once, at the
 // base, and kept.
 ghost use mathlib.Core.Path.{_≡_};
-ghost use Prim.Native.Nat.{_+_, _*_, _^_, _≤_, _<_, min, max};
+ghost use Prim.Native.Nat.{_*_, _^_, _≤_, _<_};
 ghost use Rattle.exact.specs.Quotient.{up};
-ghost use Rattle.claims.specs.Verdict.{flag};
 ghost use Rattle.coefficient.specs.Coefficient.{fraction, ProductFits};
-ghost use Rattle.cubes.specs.Cube.{IsCubes};
+ghost use Rattle.cubes.specs.Cube.{LentCubes};
 ghost use Rattle.walls.specs.Base.{designMoment, baseRowFrom, WallBaseRange};
 ghost use Rattle.walls.specs.Storey.{designShear, storeyRowFrom, StoreyRange};
 ghost use Rattle.walls.specs.Running.{wallOf, WallRange};
-ghost use Rattle.walls.specs.Words.{packedRow};
 use claims::Row;
 use coefficient::Quotient;
 
@@ -54,18 +52,6 @@ pub fn wall_of(behaviour: u32, base: WallBase) -> Wall
     }
 }
 
-fn larger(x: u64, y: u64) -> u64
-    ensures { λ r. ⌜ r ≡ max x y ⌝ }
-{
-    if x <= y { y } else { x }
-}
-
-fn smaller(x: u64, y: u64) -> u64
-    ensures { λ r. ⌜ r ≡ min x y ⌝ }
-{
-    if x <= y { x } else { y }
-}
-
 // k·x/3000, up.
 fn third_up(k: u64, x: u64) -> u64
     requires { ⌜ k * x < 2 ^ 64 ⌝ }
@@ -80,7 +66,7 @@ fn design_shear(a: Quotient, k: u64, shear: u32, base: u64) -> u64
     requires third { ⌜ k * base < 2 ^ 64 ⌝ }
     ensures { λ r. ⌜ r ≡ designShear (fraction a) k shear base ⌝ }
 {
-    larger(coefficient::product_up(a, shear), third_up(k, base))
+    exact::larger(coefficient::product_up(a, shear), third_up(k, base))
 }
 
 // Larger of a·ME up and k·MR/3000 up, at most MR.
@@ -89,36 +75,10 @@ fn design_moment(a: Quotient, k: u64, moment: u32, resistance: u64) -> u64
     requires third { ⌜ k * resistance < 2 ^ 64 ⌝ }
     ensures { λ r. ⌜ r ≡ designMoment (fraction a) k moment resistance ⌝ }
 {
-    smaller(
-        larger(coefficient::product_up(a, moment), third_up(k, resistance)),
+    exact::smaller(
+        exact::larger(coefficient::product_up(a, moment), third_up(k, resistance)),
         resistance,
     )
-}
-
-// A row from numbers that are not negative: V, VR, moment, its strength, k, verdict.
-fn packed(shear: u64, strength: u32, moment: u64, resistance: u32, root: u32, verdict: u64) -> Row
-    requires shear { ⌜ shear < 2 ^ 63 ⌝ }
-    requires moment { ⌜ moment < 2 ^ 63 ⌝ }
-    requires verdict { ⌜ verdict < 2 ^ 63 ⌝ }
-    ensures { λ r. ⌜ r ≡ packedRow shear strength moment resistance root verdict ⌝ }
-{
-    Row {
-        word2: claims::word(shear),
-        word3: claims::word(strength as u64),
-        word4: claims::word(moment),
-        word5: claims::word(resistance as u64),
-        word6: claims::word(root as u64),
-        verdict: claims::word(verdict),
-    }
-}
-
-// The verdict of two tests, each with its bit.
-fn verdict_of(bit: u64, failed: bool, other: u64, broken: bool) -> u64
-    requires { ⌜ bit + other < 2 ^ 63 ⌝ }
-    ensures value { λ r. ⌜ r ≡ flag bit failed + flag other broken ⌝ }
-    ensures within { λ r. ⌜ r ≤ bit + other ⌝ }
-{
-    claims::failed_bit(bit, failed) + claims::failed_bit(other, broken)
 }
 
 // The row of the base that the running values are of.
@@ -132,13 +92,20 @@ pub fn base_row(wall: Wall, base: WallBase) -> Row
     let m = design_moment(a, 1000, base.moment, base.resistance as u64);
     let failed = (base.strength as u64) < v;
     let short = (base.length as u64) <= 4 * (base.thickness as u64);
-    let verdict = verdict_of(1, failed, 128, short);
-    packed(v, base.strength, m, base.resistance, 0, verdict)
+    let verdict = claims::verdict_of(1, failed, 128, short);
+    claims::packed(
+        v,
+        base.strength as u64,
+        m,
+        base.resistance as u64,
+        0,
+        verdict,
+    )
 }
 
-// The row of a storey of the wall with these running values.
-pub fn storey_row(wall: Wall, storey: Storey, table: &[u64; 1001]) -> Row
-    requires table { ⌜ IsCubes (now table) ⌝ }
+// The row of a storey of the wall with these running values; the table of cubes may be lent.
+pub fn storey_row(wall: Wall, storey: Storey, table: &[u64]) -> Row
+    requires table { ⌜ LentCubes (now table) ⌝ }
     requires wall { ⌜ WallRange wall ⌝ }
     requires storey { ⌜ StoreyRange storey ⌝ }
     ensures { λ r. ⌜ r ≡ storeyRowFrom (fraction (wall .coefficient)) (wall .shear) (wall .resistance) storey ⌝ }
@@ -149,6 +116,13 @@ pub fn storey_row(wall: Wall, storey: Storey, table: &[u64; 1001]) -> Row
     let m = design_moment(a, k as u64, storey.moment, wall.resistance as u64);
     let failed = (storey.strength as u64) < v;
     let broken = (storey.resistance as u64) < m;
-    let verdict = verdict_of(1, failed, 2, broken);
-    packed(v, storey.strength, m, storey.resistance, k, verdict)
+    let verdict = claims::verdict_of(1, failed, 2, broken);
+    claims::packed(
+        v,
+        storey.strength as u64,
+        m,
+        storey.resistance as u64,
+        k as u64,
+        verdict,
+    )
 }

@@ -1,33 +1,32 @@
--- `capacity::run` meets its contract, in each of its three cases (Runs.antt), with demand 3 of the words written (Whole.antt).
--- Assumes nothing.
+-- `capacity::run` meets its contract, in each of its cases (Runs.antt), with demand 3 of the words written (Whole.antt). Assumes nothing.
 use mathlib.Core.Path.{sym, ap, _∙_, subst}
 use native.Mathlib.Omega.{arith}
-use borrow.Author.Needs.{needs}
-use Rattle.job.specs.Answers.{rowCountAnswer}
+use Rattle.job.specs.Walking.{walkedAnswer}
 use Rattle.capacity.specs.DemandThree.{DemandThree}
 use Rattle.capacity.proofs.Runs.{differ, refused-run, accepted-run, short-run, enough, full-run}
 use Rattle.capacity.proofs.Whole.{demand-three}
+use borrow.Author.Needs.{needs}
 use Rattle.capacity.proofs.run.Statement.{statement}
 use Rattle.capacity.proofs.run.Tie as tie
 
-table-requires : tie.Need-table-requires
-table-requires c κs = search needs
+pass-requires : tie.Need-pass-requires
+pass-requires c κs = search needs
 
-count-requires : tie.Need-count-requires
-count-requires c κs = search needs
+enum-known-ended : tie.Need-enum-known-ended
+enum-known-ended c = search needs
 
-enum-known-counted : tie.Need-enum-known-counted
-enum-known-counted c = search needs
+enum-told : tie.Need-enum-told
+enum-told c = search needs
 
-enum-known-counted-2 : tie.Need-enum-known-counted-2
-enum-known-counted-2 c = search needs
+enum-known-ended-2 : tie.Need-enum-known-ended-2
+enum-known-ended-2 c = search needs
 
 returns : tie.Need-returns
 returns c =
     let k = c .before .before in
     let n = k .before .before in
-    let s = n .before .before .before .before in
-    let e = sym (ap rowCountAnswer (k .counted2 .given .1)) ∙ n .count .ensures in
+    let s = n .before .before in
+    let e = sym (ap walkedAnswer (k .ended2 .given .1)) ∙ n .pass .ensures .0 in
     let r = short-run (s .args .job .now) _ (s .args .rows .now) (accepted-run (s .args .job .now) _ e) (omega (arith, c .if1 .taken)) in
     (r .0, (r .1, λ f. absurd (differ (sym f))))
 
@@ -38,22 +37,28 @@ returns-2 : tie.Need-returns-2
 returns-2 c =
     let k = c .before in
     let n = k .before .before in
-    let s = n .before .before .before .before in
-    let e = sym (ap rowCountAnswer (k .counted .given .1)) ∙ n .count .ensures in
-    let r = refused-run (s .args .job .now) _ _ (s .args .rows .now) e in
+    let s = n .before .before in
+    let r = refused-run (s .args .job .now) _ _ (s .args .rows .now) (sym (ap walkedAnswer (k .ended .given .1)) ∙ n .pass .ensures .0) in
+    (r .0, (r .1, λ f. absurd (differ (sym f))))
+
+returns-3 : tie.Need-returns-3
+returns-3 c =
+    let n = c .before .before in
+    let s = n .before .before in
+    let r = refused-run (s .args .job .now) 8 0 (s .args .rows .now) (sym (ap walkedAnswer (c .enum-told .given .1)) ∙ n .pass .ensures .0) in
     (r .0, (r .1, λ f. absurd (differ (sym f))))
 
 same-length : tie.Need-same-length
 same-length c = search needs
 
-returns-3 : tie.Need-returns-3
-returns-3 c =
+returns-4 : tie.Need-returns-4
+returns-4 c =
     let w = c .before in
-    let i = w .before .before .before in
+    let i = w .before .before in
     let k = i .before .before in
     let n = k .before .before in
-    let s = n .before .before .before .before in
-    let e = sym (ap rowCountAnswer (k .counted2 .given .1)) ∙ n .count .ensures in
+    let s = n .before .before in
+    let e = sym (ap walkedAnswer (k .ended2 .given .1)) ∙ n .pass .ensures .0 in
     let a = accepted-run (s .args .job .now) _ e in
     let fits = enough (s .args .job .now) _ (s .args .rows .now) a (omega (arith, i .if1 .left)) in
     let r = full-run (s .args .job .now) _ (s .args .rows .now) a (omega (arith, i .if1 .left)) in
@@ -62,7 +67,7 @@ returns-3 c =
       (
         written ∙ r .1,
         λ f. subst (DemandThree (s .args .job .now)) (sym written)
-            (demand-three (s .args .job .now) (λ j. n .before .before .before .shared-slice-known .given j .fits) (a .commands) (a .is) _),
+            (demand-three (s .args .job .now) (λ j. n .before .shared-slice-known .given j .fits) (a .commands) (a .is) _),
       ),
     )
 
@@ -70,12 +75,13 @@ pub run-spec : {M : Type 1} → statement M
 run-spec =
     tie.close
     (tie.spec
-    table-requires
-    count-requires
-    enum-known-counted
-    enum-known-counted-2
+    pass-requires
+    enum-known-ended
+    enum-told
+    enum-known-ended-2
     returns
     write-requires
     returns-2
+    returns-3
     same-length
-    returns-3)
+    returns-4)

@@ -1,75 +1,61 @@
--- `cubes::least_root` meets its contract. The loop's invariant: the ends bracket the least k. The measure is their distance.
--- Assumes nothing.
-use mathlib.Core.Path.{_≡_}
-use Prim.Native.Nat.{ℕ, _+_, _-_, _/_}
+-- `cubes::least_root` meets its contract. The loop's invariant: the least k lies from `low` to `low + length`. The measure is
+-- the length. Assumes nothing.
+use mathlib.Core.Logic.{⊎-elim}
 use native.Mathlib.Omega.{arith}
-use lib.ListN.{getD}
-use denote.Ref.{now}
-use Rattle.cubes.specs.Cube.{cube}
-use Rattle.cubes.proofs.Halving.{Bracket, start, raise, lower, met}
+use Rattle.cubes.proofs.Halving.{Bracket, start, raise, keep, met}
 use Rattle.cubes.proofs.Roots.{cube-fits, least-is}
 use Rattle.cubes.proofs.least_root.Statement.{statement}
 use Rattle.cubes.proofs.least_root.Tie as tie
 
 abbrev Inv-loop : tie.InvT-loop
-Inv-loop table j j0 need base low₀ high₀ low high = Bracket j j0 low high
+Inv-loop lent j j0 need base low₀ length₀ rest₀ low length rest = Bracket j j0 low length rest
 
 abbrev μ-loop : tie.MeasureT-loop
-μ-loop table j j0 need base low₀ high₀ low high = high - low
-
--- within the loop's body, the entry in the middle is its cube
-abbrev middle : tie.In-loop Inv-loop μ-loop → ℕ
-middle c = c .before .loop .low + (c .before .loop .high - c .before .loop .low) / 2
-
-entry : (c : tie.In-loop Inv-loop μ-loop) → getD (now (c .before .before .args .table)) (middle c) 0 ≡ cube (middle c)
-entry c = c .before .before .pre .0 .entry (middle c) (omega arith)
+μ-loop lent j j0 need base low₀ length₀ rest₀ low length rest = length
 
 mul-need : tie.Need-mul-need Inv-loop μ-loop
 mul-need c = omega arith
 
 loop-holds : tie.Need-loop-holds Inv-loop μ-loop
-loop-holds c = start (c .pre .1)
+loop-holds c = start (c .before .pre .1)
 
-sub-middle : tie.Need-sub-middle Inv-loop μ-loop
-sub-middle c = omega arith
+sub-step : tie.Need-sub-step Inv-loop μ-loop
+sub-step c = omega arith
 
-add-middle : tie.Need-add-middle Inv-loop μ-loop
-add-middle c = omega arith
+add-cube-of : tie.Need-add-cube-of Inv-loop μ-loop
+add-cube-of c = omega arith
+
+sub-cube-of : tie.Need-sub-cube-of Inv-loop μ-loop
+sub-cube-of c = omega arith
+
+cube-of-requires : tie.Need-cube-of-requires Inv-loop μ-loop
+cube-of-requires c κs = (c .before .before .before .pre .0, omega arith)
 
 mul-if1 : tie.Need-mul-if1 Inv-loop μ-loop
-mul-if1 c = omega arith
-
-element-copy-out-if1 : tie.Need-element-copy-out-if1 Inv-loop μ-loop
-element-copy-out-if1 c = omega arith
-
-mul-if1-2 : tie.Need-mul-if1-2 Inv-loop μ-loop
-mul-if1-2 c =
-    rw (entry (c .before))
-    (record { fits = cube-fits (c .before .before .before .args .j0) (omega arith) (c .before .before .before .fits .j0 .fits) })
+mul-if1 c =
+    let s = c .before .before .before .before in
+    rw (c .cube-of .ensures) (record { fits = cube-fits (s .args .j0) (omega arith) (s .fits .j0 .fits) })
 
 add-low : tie.Need-add-low Inv-loop μ-loop
-add-low c = omega arith
+add-low c = ⊎-elim (λ w. omega arith) (λ w. omega arith) (c .before .if1 .came)
 
 loop-less : tie.Need-loop-less Inv-loop μ-loop
 loop-less c = omega arith
 
 loop-again : tie.Need-loop-again Inv-loop μ-loop
 loop-again c =
-    raise (middle (c .before .before)) (c .before .before .before .loop .inv) (omega arith)
-    (omega (arith, rw (entry (c .before .before)) at (c .if1 .taken)))
-
-loop-less-2 : tie.Need-loop-less-2 Inv-loop μ-loop
-loop-less-2 c = omega arith
-
-loop-again-2 : tie.Need-loop-again-2 Inv-loop μ-loop
-loop-again-2 c =
-    lower (middle (c .before .before)) (c .before .before .before .loop .inv) (omega arith) (omega arith)
-    (omega (arith, rw (entry (c .before .before)) at (c .if1 .left)))
+    let e = c .before .before in
+    let d = e .before in
+    let l = d .before .loop in
+    let s = d .before .before .before .args in
+    ⊎-elim
+    (λ w. raise (s .j) (s .j0) (l .low) (l .length) (l .rest) (c .before .if1 .added) (l .inv) (d .loop-test .taken) (omega (arith, rw (e .cube-of .ensures) at (w .0 .taken))) (w .1))
+    (λ w. keep (s .j) (s .j0) (l .low) (l .length) (l .rest) (c .before .if1 .added) (l .inv) (d .loop-test .taken) (omega (arith, rw (e .cube-of .ensures) at (w .0 .left))) (w .1))
+    (c .before .if1 .came)
 
 cast-result : tie.Need-cast-result Inv-loop μ-loop
 cast-result c = omega arith
 
--- the ends have met
 returns : tie.Need-returns Inv-loop μ-loop
 returns c = let l = met (c .before .loop .inv) (c .loop-test .left) in (least-is l, l)
 
@@ -81,15 +67,13 @@ least-root-spec =
     μ-loop
     mul-need
     loop-holds
-    sub-middle
-    add-middle
+    sub-step
+    add-cube-of
+    sub-cube-of
+    cube-of-requires
     mul-if1
-    element-copy-out-if1
-    mul-if1-2
     add-low
     loop-less
     loop-again
-    loop-less-2
-    loop-again-2
     cast-result
     returns)

@@ -1,11 +1,11 @@
 -- `footing::seismic_part` meets its contract: the product fits, and its negative. Assumes nothing.
-use mathlib.Core.Path.{_≡_, _∙_}
+use mathlib.Core.Path.{_≡_, sym, _∙_}
 use lib.IntN.{pos, _*ℤ_}
 use mir.Syntax.{w64}
 use mir.Val.{SFits, toZ, ofZ}
 use mir.Facts.{toZ-ofZ}
 use Rattle.exact.proofs.Integers.{read-as, negated}
-use Rattle.footing.proofs.Directions.{part-fits, negated-fits}
+use Rattle.footing.proofs.Directions.{turned-plus, turned-minus, part-fits, negated-fits}
 use borrow.Author.Needs.{needs}
 use Rattle.footing.proofs.seismic_part.Statement.{statement}
 use Rattle.footing.proofs.seismic_part.Tie as tie
@@ -41,20 +41,19 @@ sub-result c =
 returns : tie.Need-returns
 returns c =
     let s = c .before .before .before in
-    let g = negated-fits (s .args .a .num) (s .args .e) (s .pre .0 .num) (s .pre .1) in
+    let part = pos (s .args .a .num) *ℤ s .args .e in
     rw (
       factor (c .before),
       seismic (c .before),
       toZ-ofZ (product s),
-      negated (pos (s .args .a .num) *ℤ s .args .e),
-      toZ-ofZ g,
-      c .if1 .taken,
-    )
+      negated part,
+      toZ-ofZ (negated-fits (s .args .a .num) (s .args .e) (s .pre .0 .num) (s .pre .1)),
+    ) (sym (turned-minus (s .args .minus) part (c .if1 .taken)))
 
 returns-2 : tie.Need-returns-2
 returns-2 c =
     let s = c .before .before .before in
-    rw (factor (c .before), seismic (c .before), toZ-ofZ (product s), c .if1 .left)
+    rw (factor (c .before), seismic (c .before), toZ-ofZ (product s)) (sym (turned-plus (s .args .minus) (pos (s .args .a .num) *ℤ s .args .e) (c .if1 .left)))
 
 pub seismic-part-spec : {M : Type 1} → statement M
 seismic-part-spec =

@@ -1,6 +1,6 @@
 -- `job::first_place` meets its contract. Assumes nothing.
 use mathlib.Core.Path.{ap}
-use Rattle.held.specs.declared.State.{State}
+use Rattle.context.specs.declared.State.{State}
 use Rattle.job.specs.declared.Place.{Place}
 use Rattle.job.specs.Walking.{firstPlace}
 use Rattle.job.proofs.first_place.Statement.{statement}

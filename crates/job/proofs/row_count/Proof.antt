@@ -1,6 +1,6 @@
 -- `job::row_count` meets its contract, case by case. Assumes nothing.
 use mathlib.Core.Path.{sym, ap}
-use Rattle.job.specs.Answers.{walkedAnswer}
+use Rattle.job.specs.Walking.{walkedAnswer}
 use borrow.Author.Needs.{needs}
 use Rattle.job.proofs.row_count.Statement.{statement}
 use Rattle.job.proofs.row_count.Tie as tie

@@ -1,46 +1,28 @@
--- `quantity::magnitude` meets its contract: each path is a law of Magnitudes.antt. Assumes nothing.
+-- `quantity::magnitude` meets its contract: that of `exact`, of the number in 64 bits; it fits 32. Assumes nothing.
+use mathlib.Core.Path.{_≡_, _∙_}
+use native.Mathlib.Omega.{arith}
+use lib.IntN.{natAbs}
 use mir.Facts.{toZ-ofZ}
-use Rattle.quantity.proofs.Magnitudes.{widened, Negative, negative, Positive, not-negative}
+use Rattle.exact.proofs.Integers.{read-as, size32}
 use Rattle.quantity.proofs.magnitude.Statement.{statement}
 use Rattle.quantity.proofs.magnitude.Tie as tie
 
-below : (c : tie.Then1) → Negative (c .before .args .value)
-below c =
-    let f = c .before .fits .value in
-    negative (c .before .args .value) f (rw (toZ-ofZ f, toZ-ofZ (widened f)) at (c .if1 .taken))
+long-requires : tie.Need-long-requires
+long-requires c κs = tt
 
-from-zero : (c : tie.Else1) → Positive (c .before .args .value)
-from-zero c =
-    let f = c .before .fits .value in
-    not-negative (c .before .args .value) f (rw (toZ-ofZ f, toZ-ofZ (widened f)) at (c .if1 .left))
+magnitude-requires : tie.Need-magnitude-requires
+magnitude-requires c κs = tt
 
-cast-wide : tie.Need-cast-wide
-cast-wide c = let f = c .fits .value in rw (toZ-ofZ f) (widened f)
-
-sub-result : tie.Need-sub-result
-sub-result c = let f = c .before .fits .value in rw (toZ-ofZ f, toZ-ofZ (widened f)) (below c .fits)
+sized : (c : tie.After-magnitude) → c .magnitude .result ≡ natAbs (c .before .before .args .value)
+sized c =
+    let l = c .before .long in
+    rw (read-as (l .ensures ∙ toZ-ofZ (c .before .before .fits .value)) (l .ok)) at (c .magnitude .ensures)
 
 cast-result : tie.Need-cast-result
-cast-result c =
-    let f = c .before .fits .value in
-    let b = below c in
-    rw (toZ-ofZ f, toZ-ofZ (widened f), toZ-ofZ (b .fits)) (b .positive, b .fits-2)
-
-cast-result-2 : tie.Need-cast-result-2
-cast-result-2 c =
-    let f = c .before .fits .value in
-    let b = from-zero c in
-    rw (toZ-ofZ f, toZ-ofZ (widened f)) (b .positive, b .fits)
+cast-result c = rw (sized c) (omega (arith, size32 (c .before .before .fits .value)))
 
 returns : tie.Need-returns
-returns c =
-    let f = c .before .fits .value in
-    let b = below c in
-    rw (toZ-ofZ f, toZ-ofZ (widened f), toZ-ofZ (b .fits)) (b .is)
-
-returns-2 : tie.Need-returns-2
-returns-2 c = let f = c .before .fits .value in rw (toZ-ofZ f, toZ-ofZ (widened f))
+returns c = sized c
 
 pub magnitude-spec : {M : Type 1} → statement M
-magnitude-spec =
-    tie.close (tie.spec cast-wide sub-result cast-result cast-result-2 returns returns-2)
+magnitude-spec = tie.close (tie.spec long-requires magnitude-requires cast-result returns)

@@ -1,4 +1,7 @@
 -- `report::put_rows` meets its contract: the totals are those of the rows listed. Assumes nothing.
+use mathlib.Core.Path.{_≡_, ap, _∙_}
+use Rattle.totals.specs.Answers.{TotalAnswer}
+use Rattle.totals.specs.Total.{totalOf}
 use Rattle.report.specs.Listing.{rowsListing}
 use borrow.Author.Needs.{needs}
 use Rattle.report.proofs.put_rows.Statement.{statement}
@@ -24,8 +27,11 @@ unfolding rowsListing
 returns c =
     let l = c .before .before in
     let t = l .before .before .before .before in
-    let e = t .total .ensures in
-    rw (← e, ← l .before .before .failed .ensures, ← l .before .checks .ensures) (l .put-listing .ensures)
+    let s = t .before .before .args in
+    let total = totalOf (s .rows .now) (s .n) in
+    let failed : l .before .before .failed .result ≡ total .failed = l .before .before .failed .ensures ∙ ap (λ (a : TotalAnswer). a .failed) (t .total .ensures) in
+    let checks : l .before .checks .result ≡ total .checks = l .before .checks .ensures ∙ ap (λ (a : TotalAnswer). a .checks) (t .total .ensures) in
+    rw (← failed, ← checks) (l .put-listing .ensures)
 
 pub put-rows-spec : {M : Type 1} → statement M
 put-rows-spec =

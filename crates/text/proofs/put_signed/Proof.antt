@@ -12,22 +12,22 @@ use Rattle.text.proofs.Writing.{byte, then}
 use Rattle.text.proofs.put_signed.Statement.{statement}
 use Rattle.text.proofs.put_signed.Tie as tie
 
-size-requires : tie.Need-size-requires
-size-requires c κs = search needs
+magnitude-requires : tie.Need-magnitude-requires
+magnitude-requires c κs = search needs
 
 -- below zero: a minus and the size
-below-text : (c : tie.Then1) → signedDecimal (c .before .before .before .args .value) ≡ minus ∷ decimal (c .before .size .result)
+below-text : (c : tie.Then1) → signedDecimal (c .before .before .before .args .value) ≡ minus ∷ decimal (c .before .magnitude .result)
 below-text c =
     let s = c .before .before .before in
     let t = rw (toZ-ofZ (s .fits .value)) at (c .if1 .taken) in
-    rw (c .before .size .ensures, toZ-ofZ (s .fits .value)) (signed-below (s .args .value) t)
+    rw (c .before .magnitude .ensures, toZ-ofZ (s .fits .value)) (signed-below (s .args .value) t)
 
 -- from zero up: the size
-from-text : (c : tie.Else1) → signedDecimal (c .before .before .before .args .value) ≡ decimal (c .before .size .result)
+from-text : (c : tie.Else1) → signedDecimal (c .before .before .before .args .value) ≡ decimal (c .before .magnitude .result)
 from-text c =
     let s = c .before .before .before in
     let t = rw (toZ-ofZ (s .fits .value)) at (c .if1 .left) in
-    rw (c .before .size .ensures, toZ-ofZ (s .fits .value)) (signed-from (s .args .value) t)
+    rw (c .before .magnitude .ensures, toZ-ofZ (s .fits .value)) (signed-from (s .args .value) t)
 
 slice-write-out : tie.Need-slice-write-out
 slice-write-out c = omega (arith, ap length (below-text c))
@@ -61,7 +61,7 @@ pub put-signed-spec : {M : Type 1} → statement M
 put-signed-spec =
     tie.close
     (tie.spec
-    size-requires
+    magnitude-requires
     slice-write-out
     add-put-decimal
     put-decimal-requires

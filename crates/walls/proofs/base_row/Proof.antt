@@ -30,13 +30,19 @@ mul-short c = search needs
 verdict-of-requires : tie.Need-verdict-of-requires
 verdict-of-requires c κs = search needs
 
+cast-packed : tie.Need-cast-packed
+cast-packed c = search needs
+
+cast-packed-2 : tie.Need-cast-packed-2
+cast-packed-2 c = search needs
+
 packed-requires : tie.Need-packed-requires
 packed-requires c κs = search needs
 
 returns : tie.Need-returns
 unfolding baseRowFrom
 returns c =
-    let v = c .before in
+    let v = c .before .before .before in
     let m = v .before .before .before .before in
     rw (c .packed .ensures, v .verdict-of .ensures .0, m .design-moment .ensures)
 
@@ -51,5 +57,7 @@ base-row-spec =
     cast-short-2
     mul-short
     verdict-of-requires
+    cast-packed
+    cast-packed-2
     packed-requires
     returns)

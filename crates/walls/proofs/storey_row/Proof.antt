@@ -17,7 +17,7 @@ cast-design-shear c = search needs
 
 design-shear-requires : tie.Need-design-shear-requires
 design-shear-requires c κs =
-    let s = c .before .before in
+    let s = c .before .before .before in
     let w = s .pre .1 .0 in (
       product-fits (s .args .wall .coefficient) (s .args .storey .shear) (w .numerator) (w .denominator) (s .pre .1 .1 .shear),
       omega (arith, mul-le-mul (c .least-root .ensures .1 .within) (w .shear)),
@@ -32,7 +32,7 @@ cast-design-moment-2 c = search needs
 design-moment-requires : tie.Need-design-moment-requires
 design-moment-requires c κs =
     let l = c .before .before in
-    let s = l .before .before in
+    let s = l .before .before .before in
     let w = s .pre .1 .0 in (
       product-fits (s .args .wall .coefficient) (s .args .storey .moment) (w .numerator) (w .denominator) (s .pre .1 .1 .moment),
       omega (arith, mul-le-mul (l .least-root .ensures .1 .within) (w .resistance)),
@@ -47,30 +47,42 @@ cast-broken c = search needs
 verdict-of-requires : tie.Need-verdict-of-requires
 verdict-of-requires c κs = search needs
 
+cast-packed : tie.Need-cast-packed
+cast-packed c = search needs
+
+cast-packed-2 : tie.Need-cast-packed-2
+cast-packed-2 c = search needs
+
+cast-packed-3 : tie.Need-cast-packed-3
+cast-packed-3 c = search needs
+
 packed-requires : tie.Need-packed-requires
 packed-requires c κs =
-    let m = c .before .before .before in
+    let d = c .before .before in
+    let m = d .before .before .before in
     let v = m .before .before in
     let l = v .before in
-    let s = l .before .before in
+    let s = l .before .before .before in
     let w = s .pre .1 .0 in
     let a = s .args .wall .coefficient in
-    let k = l .least-root .result in (
-      omega (
-        arith,
-        v .design-shear .ensures,
-        shear-fits a k (s .args .storey .shear) (s .args .wall .shear) (w .numerator) (w .denominator) (s .pre .1 .1 .shear) (l .least-root .ensures .1 .within) (w .shear),
-      ),
+    let k = l .least-root .result in
+    let root = l .least-root .ensures .1 .within in
+    let shear = shear-fits a k (s .args .storey .shear) (s .args .wall .shear) (w .numerator) (w .denominator) (s .pre .1 .1 .shear) root (w .shear) in
+    let moment = moment-le (fraction a) k (s .args .storey .moment) (s .args .wall .resistance) in (
+      omega (arith, v .design-shear .ensures, shear),
       (
-        omega (arith, w .resistance, m .design-moment .ensures, moment-le (fraction a) k (s .args .storey .moment) (s .args .wall .resistance)),
-        omega (arith, c .verdict-of .ensures .1),
+        omega (arith, s .pre .1 .1 .strength),
+        (
+          omega (arith, w .resistance, m .design-moment .ensures, moment),
+          (omega (arith, s .pre .1 .1 .resistance), (omega (arith, root), omega (arith, d .verdict-of .ensures .1))),
+        ),
       ),
     )
 
 returns : tie.Need-returns
 unfolding storeyRowFrom
 returns c =
-    let b = c .before in
+    let b = c .before .before .before in
     let m = b .before .before .before in
     let v = m .before .before in
     let l = v .before in
@@ -89,5 +101,8 @@ storey-row-spec =
     cast-failed
     cast-broken
     verdict-of-requires
+    cast-packed
+    cast-packed-2
+    cast-packed-3
     packed-requires
     returns)

@@ -1,2 +1,0 @@
--- What the steps of `magnitude` come to.
-mod Magnitudes

@@ -1,0 +1,124 @@
+"""Calls the shared library by ctypes: shared.py LIBRARY HEADER JOB.., at the root of the repository.
+
+Runs every job by eak_size, eak_run and eak_total, writes the listing that they give and compares it with the file NAME.out beside
+NAME.job. Compares eak_fault with eak_size on each, and on those in docs/FORMAT.md, "Refusal 5 by operand", with the operand named
+there. Tries that words after the rows, and in a refusal every word, stay as they were; the version against the header's; calls
+with no elements; two soil values; and the job with the most rows. Prints what differs; the exit status is 0 only if nothing does. Standard library alone.
+"""
+import ctypes
+import re
+import sys
+
+WORDS, LENT, AS_LENT = 8, 8192, 0x5A5A5A5A5A5A5A5A
+
+# Commands in range; each operand that may be 0 is 0.
+SETTINGS = bytes.fromhex("01 015E 008C 0078")
+SOIL = bytes.fromhex("08 00 00000000 00")
+FOOTING = bytes.fromhex("09 000001F4 000001F4") + bytes(49)
+
+
+def struct(*fields):
+    """A struct of the header: its fields in their order, each 'type name'."""
+    types = {"bool": ctypes.c_bool, "u32": ctypes.c_uint32, "u64": ctypes.c_uint64, "size": ctypes.c_size_t}
+    pairs = [field.split() for field in fields]
+    return type("Answer", (ctypes.Structure,), {"_fields_": [(name, types[kind]) for kind, name in pairs]})
+
+
+JOB_ANSWER = struct("bool accepted", "u32 number", "size offset", "size rows")
+FAULT_ANSWER = struct("u32 number", "size offset", "u32 command", "u32 operand")
+TOTALS_ANSWER = struct("u32 number", "size offset", "size rows", "u64 failed", "u64 checks")
+SOIL_ANSWER = struct("u32 number", "u32 offset", "u32 value")
+BYTES, ROWS, SIZE = ctypes.c_char_p, ctypes.POINTER(ctypes.c_int64), ctypes.c_size_t
+
+# Each call of the header: its answer and its parameters.
+CALLS = {
+    "eak_version": (ctypes.c_uint32, []),
+    "eak_size": (JOB_ANSWER, [BYTES, SIZE]),
+    "eak_fault": (FAULT_ANSWER, [BYTES, SIZE]),
+    "eak_run": (JOB_ANSWER, [BYTES, SIZE, ROWS, SIZE]),
+    "eak_total": (TOTALS_ANSWER, [ROWS, SIZE, SIZE]),
+    "eak_take_down": (SOIL_ANSWER, [ctypes.c_uint8, ctypes.c_float]),
+}
+
+
+def load(path):
+    library = ctypes.CDLL(path)
+    for name, (answer, parameters) in CALLS.items():
+        call = getattr(library, name)
+        call.restype, call.argtypes = answer, parameters
+    return library
+
+
+def values(answer):
+    return tuple(getattr(answer, name) for name, _ in answer._fields_)
+
+
+def listing(library, job):
+    """The listing of a job, and the words that the call was not to write."""
+    lent = (ctypes.c_int64 * LENT)(*[AS_LENT] * LENT)
+    size, ran = library.eak_size(job, len(job)), library.eak_run(job, len(job), lent, LENT)
+    assert ran.number == 9 or values(size) == values(ran), "eak_size and eak_run differ"
+    assert ran.accepted == (ran.number == 0)
+    if not ran.accepted:
+        return f"refused {ran.number} {ran.rows if ran.number == 9 else ran.offset}\n", lent[:]
+    end = WORDS * ran.rows
+    totals = library.eak_total(lent, end, ran.rows)
+    lines = [" ".join(str(word) for word in lent[at:at + WORDS]) for at in range(0, end, WORDS)]
+    lines.append(f"rows {ran.rows} failed {totals.failed} checks {totals.checks}")
+    return "\n".join(lines) + "\n", lent[end:]
+
+
+def faulty(library, job):
+    """The fault of a job; its number, offset and command's byte go with eak_size and the job's bytes."""
+    size, fault = library.eak_size(job, len(job)), library.eak_fault(job, len(job))
+    standing = job[size.offset] if size.number and size.offset < len(job) else 0
+    assert values(fault)[:3] == (size.number, size.offset, standing), "eak_size and eak_fault differ"
+    return fault
+
+
+def named():
+    """The operand at fault of each job in the document's table of refusal 5."""
+    with open("docs/FORMAT.md", encoding="utf-8") as file:
+        return {job: int(operand) for job, operand in re.findall(r"`(examples/refused/\S+\.job)` \| (\d+), ", file.read())}
+
+
+def main(path, header, jobs):
+    library, faults, operands = load(path), [], named()
+
+    def same(what, expected, found):
+        if expected != found:
+            faults.append(f"{what}: expected {expected!r}, found {found!r}")
+
+    with open(header, encoding="utf-8") as file:
+        defined = {name: int(value) for name, value in re.findall(r"^#define (EAK_\w+) (\d+)$", file.read(), re.M)}
+    same("the version", defined["EAK_VERSION"], library.eak_version())
+    same("the words of a row", defined["EAK_ROW_WORDS"], WORDS)
+    start, footing = SETTINGS + SOIL, FOOTING * 4094
+    most = start + footing + b"\0"
+    same("the most rows", (True, 0, 0, defined["EAK_MOST_ROWS"]), values(library.eak_size(most, len(most))))
+    more = start + footing + FOOTING + b"\0"
+    same("a footing more", (False, 8, len(start + footing), 0), values(library.eak_size(more, len(more))))
+    one = (ctypes.c_int64 * 1)(AS_LENT)
+    same("eak_size of no bytes", (False, 1, 0, 0), values(library.eak_size(b"", 0)))
+    same("eak_fault of no bytes", (1, 0, 0, 0), values(library.eak_fault(b"", 0)))
+    same("eak_run of no bytes, no words", (False, 1, 0, 0), values(library.eak_run(b"", 0, one, 0)))
+    same("eak_total of no rows", (0, 0, 0, 0, 0), values(library.eak_total(one, 0, 0)))
+    same("eak_total of a row in no words", (9, 0, 1, 0, 0), values(library.eak_total(one, 0, 1)))
+    same("the word after no words", AS_LENT, one[0])
+    same("tangent 0.7", (0, 0, 6999), values(library.eak_take_down(0, 0.7)))
+    same("tangent 2.5", (5, 0, 0), values(library.eak_take_down(0, 2.5)))
+    for name in jobs:
+        with open(name, "rb") as file, open(name.removesuffix(".job") + ".out", encoding="utf-8") as out:
+            job = file.read()
+            found, later = listing(library, job)
+            same(name, out.read(), found)
+            fault = faulty(library, job)
+            same(f"{name}: operand at fault", operands.pop(name, 0), fault.operand)
+            same(f"{name}: words as lent", {AS_LENT}, set(later))
+    same("the operands of jobs that were not run", {}, operands)
+    print("\n".join(faults) or f"{len(jobs)} jobs agree")
+    return 1 if faults or not jobs else 0
+
+
+if __name__ == "__main__":
+    sys.exit(main(sys.argv[1], sys.argv[2], sys.argv[3:]))
