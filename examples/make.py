@@ -64,6 +64,7 @@ F1 = dict(B=2200, L=2200, MR=260000, ME=130000, NV=800000, NE=0, XV=20000, XE=60
 F2 = dict(B=1800, L=1800, MR=260000, ME=130000, NV=800000, XV=50000, XE=110000,
           YV=0, YE=0, HV=15000, HE=55000, U=0, P=0, flags=0)
 N1 = dict(length=3000, ME1=60000, ME2=60000, V0=-20000, VR=130000)
+N2 = dict(length=3200, ME1=110000, ME2=110000, V0=35000, VR=250000)
 
 
 def times(factor, operands, names):
@@ -92,6 +93,16 @@ JOBS = {
         command("beam", "beam B1, end 2", **B1, V0=-88000, VR=180000),
         command("no_hinges", "beam N1, short and deep", length=3200, joint1=1, joint2=2, ME1=110000, ME2=125000, V0=35000, VR=250000),
         command("no_hinges", "column N2, stiff", length=2500, joint1=3, joint2=3, ME1=60000, ME2=45000, V0=0, VR=180000),
+    ],
+    # Two storeys with the same joint id: in the second the beam is strengthened, so the joint is given again with its new sum.
+    "revised": [
+        SETTINGS,
+        command("joint", "joint 1, storey 1", id=1, RB=210000, RC=380000, EB=120000),
+        command("beam", "beam B1, end 1, storey 1", **B1, V0=82000, VR=180000),
+        command("no_hinges", "member N1, storey 1", joint1=1, joint2=1, **N2),
+        command("joint", "joint 1, storey 2, given again", id=1, RB=280000, RC=380000, EB=120000),
+        command("beam", "beam B1, end 1, storey 2, strengthened", **B1 | dict(R1plus=315000), V0=82000, VR=200000),
+        command("no_hinges", "member N1, storey 2", joint1=1, joint2=1, **N2),
     ],
     # A wall of five storeys above its base; it becomes thinner and then shorter.
     "wall": [
@@ -183,6 +194,10 @@ JOBS = {
         command("footing", "footing F1, tangent 0.5", **F1),
         command("soil", "granular soil, tangent 0.5 little-endian", kind=GRANULAR, value=turned(0.5), sensitive=0),
         command("footing", "footing F1, tangent little-endian", **F1),
+        command("joint", "joint J1", id=1, RB=300000, RC=500000, EB=200000),
+        command("no_hinges", "member N1, between joints like J1", joint1=1, joint2=1, **N1 | dict(VR=100000)),
+        command("joint", "joint J2, with the id of J1", id=1, RB=150000, RC=500000, EB=200000),
+        command("no_hinges", "member N1, meant between joints like J1", joint1=1, joint2=1, **N1 | dict(VR=100000)),
     ],
 }
 

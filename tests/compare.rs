@@ -1,6 +1,7 @@
 //! Compares the proved library with the reference on random jobs: size, fault, run, total and take-down, with guard words around
 //! the rows. Arguments: jobs, seed. Prints `N jobs agree`, or the first disagreement with its job in hexadecimal. A run of
-//! 100,000 jobs or more fails too when an operand was never at fault.
+//! 100,000 jobs or more fails too when an operand was never at fault, or when fewer than a tenth of the jobs are accepted ones with
+//! a joint revised between members.
 //! Assumes nothing. Built by tests/run.
 
 mod generate;
@@ -45,6 +46,10 @@ fn main() {
         println!("never at fault (command, operand): {missed:?}");
         std::process::exit(1);
     }
+    if jobs >= MANY && tally.revised * 10 < jobs {
+        println!("a joint revised in {} of {jobs} jobs", tally.revised);
+        std::process::exit(1);
+    }
     println!("{jobs} jobs agree");
 }
 
@@ -53,6 +58,8 @@ fn main() {
 struct Tally {
     accepted: u64,
     rows: u64,
+    /// Accepted jobs with a joint revised between members, each counted once.
+    revised: u64,
     /// By number, from 1 to 9.
     refused: [u64; 10],
     /// Jobs by the command and the operand at fault.
@@ -86,8 +93,8 @@ impl std::fmt::Display for Tally {
     fn fmt(&self, out: &mut std::fmt::Formatter) -> std::fmt::Result {
         write!(
             out,
-            "{} accepted with {} rows; refused",
-            self.accepted, self.rows
+            "{} accepted with {} rows; a joint revised in {} jobs; refused",
+            self.accepted, self.rows, self.revised
         )?;
         (1..10).try_for_each(|number| write!(out, " {number}: {}", self.refused[number]))
     }
@@ -99,6 +106,12 @@ fn hexadecimal(job: &[u8]) -> String {
 
 // The jobs.
 
+/// How often each of the commands 02 to 0A is drawn, in turn for ten jobs each: all kinds, then mostly joints and members between them.
+const MIXES: [Mix; 2] = [
+    Mix([1, 2, 2, 3, 2, 4, 1, 5, 1]),
+    Mix([5, 1, 1, 8, 1, 1, 1, 1, 1]),
+];
+
 /// One job of each kind in turn; every 200th is of 4,096 commands and every 200th of 4,097.
 fn draw(random: &mut Random, number: u64) -> Vec<u8> {
     match number % 200 {
@@ -107,7 +120,7 @@ fn draw(random: &mut Random, number: u64) -> Vec<u8> {
         _ => (),
     }
     let commands = 1 + random.below(40) as usize;
-    let mut job = generate::valid(random, commands, &Mix([1, 2, 2, 3, 2, 4, 1, 5, 1]));
+    let mut job = generate::valid(random, commands, &MIXES[(number / 10 % 2) as usize]);
     match number % 10 {
         0 | 1 => (),
         2 | 3 => generate::at_demand(random, &mut job),
@@ -156,6 +169,7 @@ fn compare(random: &mut Random, job: &[u8], tally: &mut Tally) -> Result<(), Str
     let fault = reference::fault(job);
     same("fault", &library::fault(job), &fault)?;
     tally.fault(&fault);
+    tally.revised += u64::from(size.is_ok() && generate::revised_between_members(job));
     let needed = size.unwrap_or(random.below(12) as usize);
     let long = ROW * needed + random.below(20) as usize;
     let short = random.below((ROW * needed).max(1) as u64) as usize;

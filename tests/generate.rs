@@ -1,5 +1,5 @@
-//! Pseudo-random jobs of document 01: valid ones, ones with strengths at the demand, ones with operands out of range, damaged
-//! ones, noise.
+//! Pseudo-random jobs of documents 01 and 02: valid ones, with joints given again too, ones with strengths at the demand, ones with
+//! operands out of range, damaged ones, noise.
 //! Assumes nothing; the same seed gives the same jobs.
 
 #![allow(dead_code)]
@@ -43,8 +43,7 @@ impl Mix {
 }
 
 /// An accepted job with `commands` commands from 1 to 4,096, settings counted, end not.
-/// A command that lacks its joint, wall base or soil is replaced by what it lacks; a joint beyond the last free id
-/// by a member between joints.
+/// A command that lacks its joint, wall base or soil is replaced by what it lacks. A joint has a new id, or one that was given.
 pub fn valid(random: &mut Random, commands: usize, mix: &Mix) -> Vec<u8> {
     let mut writer = Writer::begin(random);
     for _ in 1..commands {
@@ -82,7 +81,6 @@ impl<'r> Writer<'r> {
 
     fn command(&mut self, wanted: u8) {
         let code = match wanted {
-            2 if self.joints.len() == 256 => 5,
             5 if self.joints.is_empty() => 2,
             7 if !self.wall => 6,
             9 if !self.soil => 8,
@@ -118,12 +116,29 @@ impl<'r> Writer<'r> {
         self.job.extend((value as i32).to_be_bytes());
     }
 
-    fn joint(&mut self) {
+    /// An id that was given.
+    fn given_id(&mut self) -> u8 {
+        let place = self.values.random.below(self.joints.len() as u64);
+        self.joints[place as usize]
+    }
+
+    /// An id that was not given, of which one must be left.
+    fn new_id(&mut self) -> u8 {
         let mut id = self.values.random.next() as u8;
         while self.joints.contains(&id) {
             id = id.wrapping_add(1);
         }
         self.joints.push(id);
+        id
+    }
+
+    fn joint(&mut self) {
+        let full = self.joints.len() == 256;
+        let id = if full || !self.joints.is_empty() && self.values.random.one_in(2) {
+            self.given_id()
+        } else {
+            self.new_id()
+        };
         let [r, e] = self.values.strength_and_demand(self.values.gj);
         let other = self.values.random.between(r, LIMIT);
         let sums = if self.values.random.one_in(2) {
@@ -164,8 +179,8 @@ impl<'r> Writer<'r> {
         let vr = self.values.amount();
         self.word(length);
         for _ in 0..2 {
-            let place = self.values.random.below(self.joints.len() as u64);
-            self.job.push(self.joints[place as usize]);
+            let id = self.given_id();
+            self.job.push(id);
         }
         self.words(&me);
         self.signed(v0);
@@ -288,6 +303,32 @@ fn put(job: &mut [u8], at: usize, value: i64, least: i64, most: u64) {
     if (least..=most as i64).contains(&value) {
         job[at..at + 4].copy_from_slice(&(value as u32).to_be_bytes());
     }
+}
+
+/// Whether some joint of an accepted job is revised between members: a member without hinges names it, then it is given again with
+/// other sums, then a member names it.
+pub fn revised_between_members(job: &[u8]) -> bool {
+    let mut sums = vec![Vec::new(); 256];
+    let [mut named, mut revised] = [[false; 256]; 2];
+    for command in split(job) {
+        match command[0] {
+            2 => {
+                let id = usize::from(command[1]);
+                revised[id] |= named[id] && sums[id] != command[2..];
+                sums[id] = command[2..].to_vec();
+            }
+            5 => {
+                for id in [command[5], command[6]].map(usize::from) {
+                    if revised[id] {
+                        return true;
+                    }
+                    named[id] = true;
+                }
+            }
+            _ => (),
+        }
+    }
+    false
 }
 
 // Jobs that should be refused, mostly.

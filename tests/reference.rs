@@ -1,4 +1,5 @@
-//! Document 01 in plain Rust: size, run, total and take-down, written from the paper; and the operand at fault.
+//! Document 01 with request No. 1 of document 02 in plain Rust: size, run, total and take-down, written from the papers; and the
+//! operand at fault.
 //! Assumes nothing of the job's bytes, the rows or the number of rows.
 
 mod footing;
@@ -161,7 +162,7 @@ struct Given {
     soil: bool,
 }
 
-/// Tries every fault of a job in 01's order and counts its rows.
+/// Tries every fault of a job in the papers' order and counts its rows.
 fn check(job: &[u8]) -> Result<usize, Refusal> {
     let mut given = Given {
         settings: false,
@@ -217,7 +218,7 @@ fn width(code: u8) -> Option<usize> {
 }
 
 impl Given {
-    /// Tries faults 5, 6 and 7 of a command and gives the number of its rows.
+    /// Tries faults 5 and 6 of a command and gives the number of its rows.
     fn admit(&mut self, code: u8, operands: &[u8]) -> Result<usize, u8> {
         match code {
             SETTINGS => {
@@ -228,7 +229,6 @@ impl Given {
             JOINT => {
                 let (id, joint) = Joint::read(fixed(operands));
                 ensure(joint.in_range(), 5)?;
-                ensure(!self.joints[id], 7)?;
                 self.joints[id] = true;
                 Ok(0)
             }

@@ -51,6 +51,31 @@ fn the_order_of_trial_at_the_limit() {
     assert_eq!(then(&[&[7][..], &[0; 24]].concat()), refusal(8, at, 0));
 }
 
+/// 02, No. 1. A member 500 long with both ends at the joint 9, before and after the joint is given again; each moment is 1,000. At
+/// first a is 1.40 · 100 / 100 and D 1000 · 2800 / 500, then q, 3.50, as EB is 0, and D 1000 · 7000 / 500. The joint 8 stays.
+#[test]
+fn a_joint_given_again_holds_for_later_members() {
+    let joint = |id, seismic| command(2, &[(0, id), (1, 100), (2, 200), (3, seismic)]);
+    let member = |id| command(5, &[(1, id), (2, id), (3, 1000), (4, 1000)]);
+    let commands = [
+        joint(9, 100),
+        joint(8, 100),
+        member(9),
+        joint(9, 0),
+        member(9),
+        member(8),
+    ]
+    .concat();
+    let mut words = [0; 24];
+    assert_eq!(
+        run(&[&JOB[..7], &commands, &[0]].concat(), &mut words),
+        Ok(3)
+    );
+    assert_eq!(words[..8], [35, 5, 5600, -5600, 0, 0, 0, 1]);
+    assert_eq!(words[8..16], [72, 5, 14_000, -14_000, 0, 0, 0, 1]);
+    assert_eq!(words[16..], [95, 5, 5600, -5600, 0, 0, 0, 1]);
+}
+
 // The operand at fault.
 
 /// The widths of each command's operands, from 01 to 0A.
@@ -132,7 +157,7 @@ fn a_fault_has_the_byte_at_its_offset() {
     assert_eq!(fault(&command(3, &[(6, u32::MAX)])), at(4, 0, 3));
     assert_eq!(fault_of(&[command(1, &[(0, 0)])]), at(4, 7, 1));
     assert_eq!(fault_of(&[storey]), at(6, 7, 7));
-    assert_eq!(fault_of(&[joint.clone(), joint]), at(7, 21, 2));
+    assert_eq!(fault_of(&[joint.clone(), joint]), Fault::default());
     let many = vec![command(8, &[]); 4096];
     assert_eq!(fault_of(&many), at(8, 28_672, 8));
 }

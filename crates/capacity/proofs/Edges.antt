@@ -1,6 +1,7 @@
 -- The words that `run` gives for small jobs, by computation: each of the bits 1, 2, 4, 8, 32 is clear where a demand equals its
 -- strength and set one unit beyond it (a side over 2 is passed one below it alone); bits 16, 64 and 128 at their bounds. So the
--- claims of demand 3 speak of checks that pass and of checks that fail. 01, "Rows and verdict bits". Assumes nothing.
+-- claims of demand 3 speak of checks that pass and of checks that fail. 01, "Rows and verdict bits". And a member before and after
+-- its joint is given again: 02, No. 1. Assumes nothing.
 use mathlib.Core.Path.{_≡_, refl}
 use mathlib.Core.List.{List, [], _∷_, _++_}
 use Prim.Native.Nat.{ℕ, _*_}
@@ -19,6 +20,7 @@ use Rattle.cubes.specs.Root.{firstFrom, leastRoot}
 use Rattle.coefficient.specs.Coefficient.{coefficientOf}
 use Rattle.members.specs.Column.{columnRow}
 use Rattle.members.specs.Beam.{beamRow}
+use Rattle.members.specs.Hingeless.{hingelessRow}
 use Rattle.members.specs.Detail.{detailRow}
 use Rattle.walls.specs.Base.{baseRow, baseRowFrom}
 use Rattle.walls.specs.Storey.{storeyRow, storeyRowFrom}
@@ -29,11 +31,11 @@ use Rattle.layout.specs.Layouts.{known, knownIn, formsOf, formsIn, widthOfAll, 
 use Rattle.format.specs.Commands.{commandOf, inRange, allInRange, related}
 use Rattle.layout.specs.Operands.{readOperands}
 use Rattle.format.specs.Reading.{commandAt}
-use Rattle.context.specs.Context.{next, absent, repeated}
+use Rattle.context.specs.Context.{next, absent}
 use Rattle.rows.specs.Rows.{rowsOf, rowsWith}
 use Rattle.rows.specs.Writing.{joined}
-use Rattle.job.specs.Faults.{tooMany, misplaced, faultAt}
-use Rattle.job.specs.Placed.{placedFrom, placed, allRows}
+use Rattle.job.specs.Faults.{tooMany, misplaced, testsAt}
+use Rattle.job.specs.Placed.{placedBy, placed, allRows}
 use Rattle.job.specs.Answers.{rowsAnswer}
 use Rattle.capacity.specs.Calls.{runOf, rowsAfter}
 
@@ -76,6 +78,14 @@ abbrev storey : ℕ → List ℕ
 storey last =
     0x07 ∷ 0x00 ∷ 0x01 ∷ 0x86 ∷ 0xa0 ∷ 0x00 ∷ 0x01 ∷ 0x86 ∷ 0xa0 ∷ 0x00 ∷ 0x00 ∷ 0x00 ∷ 0x01 ∷ 0x3b ∷ 0x9a ∷ 0xca ∷ 0x00
     ∷ 0x00 ∷ 0x06 ∷ 0x1a ∷ 0x80 ∷ 0x00 ∷ 0x04 ∷ 0xf5 ∷ last ∷ []
+
+-- the joint 9: RB 100, RC 200, EB in a byte
+abbrev joint : ℕ → List ℕ
+joint seismic = 0x02 ∷ 0x09 ∷ 0x00 ∷ 0x00 ∷ 0x00 ∷ 0x64 ∷ 0x00 ∷ 0x00 ∷ 0x00 ∷ 0xc8 ∷ 0x00 ∷ 0x00 ∷ 0x00 ∷ seismic ∷ []
+
+-- without hinges, 500 long, the joint 9 at both ends; ME1 and ME2 1,000; V0 and VR 0
+abbrev hingeless : List ℕ
+hingeless = 0x05 ∷ 0x00 ∷ 0x00 ∷ 0x01 ∷ 0xf4 ∷ 0x09 ∷ 0x09 ∷ 0x00 ∷ 0x00 ∷ 0x03 ∷ 0xe8 ∷ 0x00 ∷ 0x00 ∷ 0x03 ∷ 0xe8 ∷ zeros 8
 
 -- granular, of tangent 0.5; sensitive or not
 abbrev soil : ℕ → List ℕ
@@ -123,6 +133,10 @@ row offset byte word2 word3 word4 word5 word6 verdict =
 -- that of a beam at offset 7
 abbrev beamRowWords : (upper lower : ℤ) → (strength verdict : ℕ) → List ℤ
 beamRowWords upper lower strength verdict = pos 7 ∷ pos 4 ∷ upper ∷ lower ∷ pos strength ∷ pos 0 ∷ pos 0 ∷ pos verdict ∷ []
+
+-- that of a member without hinges, whose VR is 0
+abbrev hingelessRowWords : ℕ → (upper lower : ℤ) → List ℤ
+hingelessRowWords offset upper lower = pos offset ∷ pos 5 ∷ upper ∷ lower ∷ pos 0 ∷ pos 0 ∷ pos 0 ∷ pos 1 ∷ []
 
 -- on a slice of zeros with just room for them, run answers the number of these rows and writes them
 pub record Gives (job : List ℕ) (rows : List (List ℤ)) : Type 0 where
@@ -209,6 +223,10 @@ laps = settings ++ detail 0 0 0x03 0xe8 1 ++ detail 1 0 0x03 0xe8 1 ++ detail 2 
 abbrev lengths : List ℕ
 lengths = settings ++ wallBase 0xa0 ++ wallBase 0xa1 ++ finish
 
+-- a joint given again between two members that are alike: a is 1.40 · 100 / 100, then q, 3.50, as EB is 0
+abbrev jointAgain : List ℕ
+jointAgain = settings ++ joint 0x64 ++ hingeless ++ joint 0 ++ hingeless ++ finish
+
 -- ---- their rows
 
 pub record Edges : Type 0 where
@@ -235,11 +253,12 @@ pub record Edges : Type 0 where
   pub detail-beyond : Gives detailBeyond (row 7 10 175001 175000 0 0 0 32 ∷ [])
   pub lap-at-2-only : Gives laps (row 7 10 0 175000 0 0 0 0 ∷ row 16 10 0 175000 0 0 0 0 ∷ row 25 10 0 175000 0 0 0 64 ∷ row 34 10 0 175000 0 0 0 0 ∷ [])
   pub four-thicknesses : Gives lengths (row 7 6 2925000 3000000 5000000 5000000 0 128 ∷ row 32 6 2925000 3000000 5000000 5000000 0 0 ∷ [])
+  pub joint-again : Gives jointAgain (hingelessRowWords 21 (pos 5600) (negsuc 5599) ∷ hingelessRowWords 58 (pos 14000) (negsuc 13999) ∷ [])
 
 pub edges : Edges
 unfolding
-    runOf rowsAfter placed placedFrom allRows rowsOf rowsWith faultAt tooMany misplaced known knownIn formsOf formsIn operandsWidth widthOfAll width commandAt commandOf readOperands number numberAfter inRange allInRange
-    formInRange related within withinSigned signed32 bits32 next absent repeated columnRow beamRow detailRow baseRow baseRowFrom storeyRow storeyRowFrom footingRow baseResistance coefficientOf smaller up down upℤ downℤ
+    runOf rowsAfter placed placedBy allRows rowsOf rowsWith testsAt tooMany misplaced known knownIn formsOf formsIn operandsWidth widthOfAll width commandAt commandOf readOperands number numberAfter inRange allInRange
+    formInRange related within withinSigned signed32 bits32 next absent columnRow beamRow hingelessRow detailRow baseRow baseRowFrom storeyRow storeyRowFrom footingRow baseResistance coefficientOf smaller up down upℤ downℤ
     firstFrom leastRoot soilAllowed soilHolding valueAllowed kindKnown topOf factorOf allowed cut taken takeDown tangentOf accepted refused ofBits
 edges =
     record {
@@ -265,4 +284,5 @@ edges =
       detail-beyond = record { answer = refl; words = refl };
       lap-at-2-only = record { answer = refl; words = refl };
       four-thicknesses = record { answer = refl; words = refl };
+      joint-again = record { answer = refl; words = refl };
     }

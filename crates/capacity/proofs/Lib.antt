@@ -1,8 +1,9 @@
--- Demand 3 for a whole job; what `run` gives twice and on a longer slice; its verdicts at their bounds.
+-- Demand 3 for a whole job; what `run` gives twice and on a longer slice; joints given again; its verdicts at their bounds.
 mod Ranges
 mod RowsTrue
 mod Whole
 mod Written
 mod Runs
 pub mod SameWords
+pub mod Revised
 pub mod Edges

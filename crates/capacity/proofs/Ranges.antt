@@ -1,6 +1,6 @@
 -- Every placed command of an accepted job is in range, and so is what holds at it. Assumes nothing.
 use mathlib.Core.Path.{_≡_, refl, sym, _∙_, subst}
-use mathlib.Core.Bool.{true, false}
+use mathlib.Core.Bool.{true}
 use mathlib.Core.List.{List, [], _∷_}
 use mathlib.Core.Option.{some, Option·some-injective, Option·none-ne-some}
 use Prim.Native.Nat.{ℕ, zero, suc, _+_}
@@ -26,9 +26,9 @@ use Rattle.layout.proofs.OperandsRead.{Fit, at, operands-fit}
 use Rattle.format.proofs.CommandRanges.{FootingFits}
 use Rattle.context.specs.Running.{SettingsRange}
 use Rattle.context.proofs.Ranges.{settings-range, joint-range}
-use Rattle.context.specs.Context.{Context, nothing, next, withJoint, absent}
-use Rattle.job.specs.Faults.{afterCommand}
-use Rattle.job.specs.Placed.{Placed, Job, refused, accepted, before, placedFrom, placed}
+use Rattle.context.specs.Context.{Context, nothing, next, withJoint}
+use Rattle.job.specs.Faults.{testsAt, afterCommand}
+use Rattle.job.specs.Placed.{Placed, Job, refused, accepted, before, placedBy, placed}
 use Rattle.job.proofs.PlacedCases.{placedAt, restAfter, by-cases}
 use Rattle.job.proofs.Simulation.{faultless}
 
@@ -103,7 +103,6 @@ next-range h (detail d) r i = r
 pub record Good (p : Placed) : Type 0 where
   pub range : inRange (p .command) ≡ true
   pub signed : SignedFit (p .command)
-  pub present : absent (p .context) (p .command) ≡ false
   pub context : ContextRange (p .context)
 
 abbrev pub AllGood : List Placed → Type 0
@@ -119,17 +118,17 @@ good-in-front p (refused number offset) g r = tt
 good-in-front p (accepted ps) g r = (g, r)
 
 abbrev GoodFrom : ℕ → List ℕ → Type 0
-GoodFrom n job = (offset count : ℕ) (h : Context) → ContextRange h → GoodJob (placedFrom n job offset count h)
+GoodFrom n job = (offset count : ℕ) (h : Context) → ContextRange h → GoodJob (placedBy testsAt n job offset count h)
 
 good-from : (n : ℕ) (job : List ℕ) → Bytes job → GoodFrom n job
-unfolding placedFrom
+unfolding placedBy
 good-from zero job b offset count h r = tt
 good-from (suc n) job b offset count h r =
-    by-cases n job offset count h GoodJob (λ l. tt) (λ l k e. tt) (λ l e z m. tt) (λ l e z m. tt)
+    by-cases testsAt n job offset count h GoodJob (λ l. tt) (λ l k e. tt) (λ l e z m. tt) (λ l e z m. tt)
     (λ l e z.
     let f = faultless job offset count h e in
-    good-in-front (placedAt job offset h) (restAfter n job offset count h)
-    (record { range = f .range; signed = signed-read job offset b; present = f .present; context = r })
+    good-in-front (placedAt job offset h) (restAfter testsAt n job offset count h)
+    (record { range = f .range; signed = signed-read job offset b; context = r })
     (good-from n job b (afterCommand job offset) (count + 1) (next h (commandAt job offset)) (next-range h (commandAt job offset) r (f .range))))
 
 pub all-good : (job : List ℕ) → Bytes job → GoodJob (placed job)

@@ -16,7 +16,7 @@ use Rattle.job.specs.Placed.{Placed, Job, accepted, placed, rowsAt, allRows}
 use Rattle.capacity.specs.DemandThree.{Claim, claimsOf, rowRead, RowsHold, AllHold, JobHolds, DemandThree}
 use Rattle.capacity.proofs.Ranges.{AllGood, GoodJob, all-good}
 use Rattle.capacity.proofs.RowsTrue.{Pairwise, rows-true}
-use Rattle.capacity.proofs.Written.{joined-length}
+use Rattle.capacity.proofs.Written.{joined-length, joined-append}
 
 -- row n behind 8·n words is read back
 read-back : (before after : List ℤ) (n offset byte : ℕ) (r : Row) → length before ≡ 8 * n → rowRead (before ++ (words offset byte r ++ after)) n ≡ r
@@ -53,10 +53,6 @@ claims-length [] [] p = refl
 claims-length [] (r ∷ rs) p = absurd p
 claims-length (c ∷ cs) [] p = absurd p
 claims-length (c ∷ cs) (r ∷ rs) p = ap suc (claims-length cs rs (p .1))
-
-joined-append : (xs ys : List (List ℤ)) → joined (xs ++ ys) ≡ joined xs ++ joined ys
-joined-append [] ys = refl
-joined-append (x ∷ xs) ys = ap (λ (l : List ℤ). x ++ l) (joined-append xs ys) ∙ sym (append-assoc x (joined xs) (joined ys))
 
 own-length : (offset byte : ℕ) (rows : List Row) → length (joined (map (words offset byte) rows)) ≡ 8 * length rows
 own-length offset byte rows = joined-length (map (words offset byte) rows) (words-eight offset byte rows) ∙ ap (λ (n : ℕ). 8 * n) (length-map rows (words offset byte))

@@ -1,6 +1,6 @@
 -- The walk from the start writes the rows of an accepted job where they fit. Assumes nothing.
-use mathlib.Core.Path.{_≡_, refl, _∙_, subst}
-use mathlib.Core.List.{List, [], _∷_, _++_}
+use mathlib.Core.Path.{_≡_, refl, sym, ap, _∙_, subst}
+use mathlib.Core.List.{List, [], _∷_, _++_, append-assoc}
 use Prim.Native.Nat.{ℕ, _*_, _≤_}
 use native.Mathlib.Omega.{arith}
 use native.Mathlib.Nat.{zero-add}
@@ -31,6 +31,10 @@ rows-eight (p ∷ ps) = eights-append (rowsAt p) (allRows ps) (words-eight (p .o
 pub joined-length : (rows : List (List ℤ)) → Eights rows → length (joined rows) ≡ 8 * length rows
 joined-length [] e = refl
 joined-length (r ∷ rs) e = length-append r (joined rs) ∙ omega (arith, e .0, joined-length rs (e .1))
+
+pub joined-append : (xs ys : List (List ℤ)) → joined (xs ++ ys) ≡ joined xs ++ joined ys
+joined-append [] ys = refl
+joined-append (x ∷ xs) ys = ap (λ (l : List ℤ). x ++ l) (joined-append xs ys) ∙ sym (append-assoc x (joined xs) (joined ys))
 
 memory-of : (job : List ℕ) (j : Job) (ps : List Placed) (f : Final) (m : List ℤ) → j ≡ accepted ps → Matches job j f 0 m → 8 * length (allRows ps) ≤ length m → f .memory ≡ joined (allRows ps) ++ drop (8 * length (allRows ps)) m
 memory-of job j ps f m e k h =

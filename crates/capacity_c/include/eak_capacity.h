@@ -21,7 +21,7 @@
  *    4  first command not settings, or settings again
  *    5  operand out of range; from eak_total a verdict outside 0 to 255; from eak_take_down kind or value out of range
  *    6  joint id not yet given, storey without wall base, footing without soil
- *    7  joint id given twice
+ *    7  no longer given (before version 1.1.0: joint id given twice; a joint given again now replaces the earlier one)
  *    8  a 4,097th command, end not counted
  *    9  too few words for the rows
  */
@@ -36,9 +36,10 @@
 extern "C" {
 #endif
 
-/* The version that this header belongs to, 1.0.0: 10,000 times the major number, 100 times the minor one, and the patch. A call is
- * changed or removed with the major number, added with the minor one. eak_version answers the library's. */
-#define EAK_VERSION 10000
+/* The version that this header belongs to, 1.1.0: 10,000 times the major number, 100 times the minor one, and the patch. A call is
+ * changed or removed with the major number; with the minor one a call is added, or jobs are accepted that were refused.
+ * eak_version answers the library's. */
+#define EAK_VERSION 10100
 
 /* The words of a row. Word 0 is the command's offset in the job, word 1 its byte, word 7 the verdict, 0 for passed. */
 #define EAK_ROW_WORDS 8

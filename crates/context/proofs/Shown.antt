@@ -1,4 +1,4 @@
--- A state and a table of joints show the context: the refusals 6 and 7, and what holds after a command, are the same off both.
+-- A state and a table of joints show the context: refusal 6, and what holds after a command, are the same off both.
 -- The wall's running values are those of the latest base as it was given. Assumes nothing.
 use mathlib.Core.Path.{_≡_, refl, sym, ap, ap₂, _∙_}
 use mathlib.Core.Bool.{Bool, true, false, not, _||_, cond}
@@ -17,8 +17,8 @@ use Rattle.walls.specs.Running.{wallOf}
 use Rattle.format.specs.declared.Command.{Command}
 use Rattle.format.specs.declared.Command.the-variants.{Finish as finish, Settings as settings, Joint as joint, Column as column, Beam as beam, Hingeless as hingeless, WallBase as wallBase, Storey as storey, Soil as soil, Footing as footing, Detail as detail}
 use Rattle.context.specs.declared.State.{State}
-use Rattle.context.specs.Context.{Context, next, withJoint, given, missing, absent, repeated}
-use Rattle.context.specs.Running.{JointTable, jointGiven, jointHeld, jointStored, nextGiven, nextSums, nextJoints, nextState, withSettings, withWall, withGround, absentIn, repeatedIn}
+use Rattle.context.specs.Context.{Context, next, withJoint, given, missing, absent}
+use Rattle.context.specs.Running.{JointTable, jointGiven, jointHeld, jointStored, nextGiven, nextSums, nextJoints, nextState, withSettings, withWall, withGround, absentIn}
 use Rattle.context.proofs.Laws.{sums-length}
 
 -- what was given, or nothing
@@ -93,20 +93,6 @@ module _ (room : Bool) (t : State) (table : JointTable) (h : Context) (s : Shows
   absent-same (soil x) i = refl
   absent-same (footing f) i = sym (missing-flag (t .founded) (h .ground) ground-given)
   absent-same (detail d) i = refl
-
-  pub repeated-same : (c : Command) → IdsFit c → repeatedIn (table .given) c ≡ repeated h c
-  unfolding repeatedIn repeated
-  repeated-same finish i = refl
-  repeated-same (settings x) i = refl
-  repeated-same (joint id j) i = sym (s .flags id i)
-  repeated-same (column c) i = refl
-  repeated-same (beam b) i = refl
-  repeated-same (hingeless id1 id2 m) i = refl
-  repeated-same (wallBase b) i = refl
-  repeated-same (storey x) i = refl
-  repeated-same (soil x) i = refl
-  repeated-same (footing f) i = refl
-  repeated-same (detail d) i = refl
 
 -- ---- after a command
 

@@ -1,4 +1,4 @@
--- The commands that change nothing, ask for nothing and give no joint: those of the arm `_`, by their tags. Assumes nothing.
+-- The commands that change nothing and ask for nothing: those of the arm `_`, by their tags. Assumes nothing.
 use mathlib.Core.Bool.{Bool, false}
 use mathlib.Core.List.{List, [], _∷_}
 use mathlib.Core.Path.{_≡_, refl}
@@ -9,23 +9,23 @@ use Rattle.format.proofs.Command.{the-type}
 use Rattle.format.specs.declared.Command.{Command}
 use Rattle.format.specs.declared.Command.the-variants.{Finish as finish, Settings as settings, Joint as joint, Column as column, Beam as beam, Hingeless as hingeless, WallBase as wallBase, Storey as storey, Soil as soil, Footing as footing, Detail as detail}
 use Rattle.context.specs.declared.State.{State}
-use Rattle.context.specs.Running.{nextGiven, nextSums, nextState, absentIn, repeatedIn}
+use Rattle.context.specs.Running.{nextGiven, nextSums, nextState, absentIn}
 
 -- the tag of a command is one of these
 abbrev pub Among : List ℕ → Command → Type 0
 Among tags c = OneOf tags (tagOf the-type c)
 
-pub state-kept : (room : Bool) (t : State) (c : Command) → Among (0 ∷ 2 ∷ 3 ∷ 4 ∷ 5 ∷ 7 ∷ 9 ∷ 10 ∷ []) c → nextState room t c ≡ t
+pub state-kept : (room : Bool) (t : State) (c : Command) → Among (0 ∷ 3 ∷ 4 ∷ 5 ∷ 7 ∷ 9 ∷ 10 ∷ []) c → nextState room t c ≡ t
 unfolding nextState
 state-kept room t finish h = refl
-state-kept room t (settings s) h = absurd (miss (0 ∷ 2 ∷ 3 ∷ 4 ∷ 5 ∷ 7 ∷ 9 ∷ 10 ∷ []) 1 tt h)
-state-kept room t (joint id j) h = refl
+state-kept room t (settings s) h = absurd (miss (0 ∷ 3 ∷ 4 ∷ 5 ∷ 7 ∷ 9 ∷ 10 ∷ []) 1 tt h)
+state-kept room t (joint id j) h = absurd (miss (0 ∷ 3 ∷ 4 ∷ 5 ∷ 7 ∷ 9 ∷ 10 ∷ []) 2 tt h)
 state-kept room t (column c) h = refl
 state-kept room t (beam b) h = refl
 state-kept room t (hingeless id1 id2 m) h = refl
-state-kept room t (wallBase b) h = absurd (miss (0 ∷ 2 ∷ 3 ∷ 4 ∷ 5 ∷ 7 ∷ 9 ∷ 10 ∷ []) 6 tt h)
+state-kept room t (wallBase b) h = absurd (miss (0 ∷ 3 ∷ 4 ∷ 5 ∷ 7 ∷ 9 ∷ 10 ∷ []) 6 tt h)
 state-kept room t (storey s) h = refl
-state-kept room t (soil s) h = absurd (miss (0 ∷ 2 ∷ 3 ∷ 4 ∷ 5 ∷ 7 ∷ 9 ∷ 10 ∷ []) 8 tt h)
+state-kept room t (soil s) h = absurd (miss (0 ∷ 3 ∷ 4 ∷ 5 ∷ 7 ∷ 9 ∷ 10 ∷ []) 8 tt h)
 state-kept room t (footing f) h = refl
 state-kept room t (detail d) h = refl
 
@@ -70,17 +70,3 @@ absent-none t table (storey s) h = absurd (miss (0 ∷ 1 ∷ 2 ∷ 3 ∷ 4 ∷ 6
 absent-none t table (soil s) h = refl
 absent-none t table (footing f) h = absurd (miss (0 ∷ 1 ∷ 2 ∷ 3 ∷ 4 ∷ 6 ∷ 8 ∷ 10 ∷ []) 9 tt h)
 absent-none t table (detail d) h = refl
-
-pub repeated-none : (table : List ℕ) (c : Command) → Among (0 ∷ 1 ∷ 3 ∷ 4 ∷ 5 ∷ 6 ∷ 7 ∷ 8 ∷ 9 ∷ 10 ∷ []) c → repeatedIn table c ≡ false
-unfolding repeatedIn
-repeated-none table finish h = refl
-repeated-none table (settings s) h = refl
-repeated-none table (joint id j) h = absurd (miss (0 ∷ 1 ∷ 3 ∷ 4 ∷ 5 ∷ 6 ∷ 7 ∷ 8 ∷ 9 ∷ 10 ∷ []) 2 tt h)
-repeated-none table (column c) h = refl
-repeated-none table (beam b) h = refl
-repeated-none table (hingeless id1 id2 m) h = refl
-repeated-none table (wallBase b) h = refl
-repeated-none table (storey s) h = refl
-repeated-none table (soil s) h = refl
-repeated-none table (footing f) h = refl
-repeated-none table (detail d) h = refl

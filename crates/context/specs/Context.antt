@@ -33,7 +33,7 @@ nothing = record { settings = none; joints = λ id. none; wall = none; ground = 
 abbrev pub groundOf : SoilGiven → Ground
 groundOf s = record { soil = soilHolding (s .kind) (ofBits binary32 (s .value)); sensitive = eqb (s .sensitive) 1 }
 
--- the joints with one more
+-- the joints with one more; one that is given again replaces the earlier one (02, No. 1)
 abbrev pub withJoint : ℕ → Joint → (ℕ → Option Joint) → ℕ → Option Joint
 withJoint id j joints i = cond (eqb i id) (some j) (joints i)
 
@@ -77,17 +77,3 @@ absent h (storey s) = missing (h .wall)
 absent h (soil s) = false
 absent h (footing f) = missing (h .ground)
 absent h (detail d) = false
-
--- refusal 7: joint id given twice
-unfoldable pub repeated : Context → Command → Bool
-repeated h finish = false
-repeated h (settings s) = false
-repeated h (joint id j) = given (h .joints id)
-repeated h (column c) = false
-repeated h (beam b) = false
-repeated h (hingeless id1 id2 m) = false
-repeated h (wallBase b) = false
-repeated h (storey s) = false
-repeated h (soil s) = false
-repeated h (footing f) = false
-repeated h (detail d) = false

@@ -116,7 +116,7 @@ nextState room t (soil s) = withGround t (groundOf s)
 nextState room t (footing f) = t
 nextState room t (detail d) = t
 
--- refusals 6 and 7, off the state and the flags
+-- refusal 6, off the state and the flags
 unfoldable pub absentIn : State → List ℕ → Command → Bool
 absentIn t given finish = false
 absentIn t given (settings s) = false
@@ -129,19 +129,6 @@ absentIn t given (storey s) = not (t .walled)
 absentIn t given (soil s) = false
 absentIn t given (footing f) = not (t .founded)
 absentIn t given (detail d) = false
-
-unfoldable pub repeatedIn : List ℕ → Command → Bool
-repeatedIn given finish = false
-repeatedIn given (settings s) = false
-repeatedIn given (joint id j) = jointGiven given id
-repeatedIn given (column c) = false
-repeatedIn given (beam b) = false
-repeatedIn given (hingeless id1 id2 m) = false
-repeatedIn given (wallBase b) = false
-repeatedIn given (storey s) = false
-repeatedIn given (soil s) = false
-repeatedIn given (footing f) = false
-repeatedIn given (detail d) = false
 
 -- ---- what the code asks: values in the ranges of 01
 

@@ -1,5 +1,5 @@
 // The context of a command, as the code keeps it: a state by value and the joints in lent tables; how a command changes it, and
-// the refusals 6 and 7.
+// refusal 6.
 use coefficient::Quotient;
 use coefficient::Settings;
 use format::Command;
@@ -15,7 +15,7 @@ ghost use lib.ListN.{length};
 ghost use lib.Ieee.{binary32, ofBits};
 ghost use Rattle.soil.specs.Reading.{soilAllowed, soilHolding};
 ghost use Rattle.walls.specs.Base.{WallBaseRange};
-ghost use Rattle.context.specs.Running.{jointGiven, jointHeld, jointStored, nextGiven, nextSums, startState, withSettings, withWall, withGround, wallKept, nextState, absentIn, repeatedIn, SoundSums, NextAsks};
+ghost use Rattle.context.specs.Running.{jointGiven, jointHeld, jointStored, nextGiven, nextSums, startState, withSettings, withWall, withGround, wallKept, nextState, absentIn, SoundSums, NextAsks};
 
 // The running values of the latest wall, settings, the latest soil; then whether each was given. The fields stand by their size,
 // so that a copy of a state has no gap within.
@@ -130,7 +130,7 @@ fn wall_kept(state: State, room: bool, base: WallBase) -> Wall
     state.wall
 }
 
-// The state after a command; `room` tells whether rows are to be written.
+// The state after a command; `room` tells whether rows are to be written. A joint changes the tables (`hold_joint`), not the state.
 pub fn next(state: State, room: bool, command: Command) -> State
     requires { ⌜ NextAsks state command ⌝ }
     ensures { λ r. ⌜ r ≡ nextState room state command ⌝ }
@@ -143,6 +143,7 @@ pub fn next(state: State, room: bool, command: Command) -> State
             soil_given(given.kind, given.value),
             given.sensitive == 1,
         ),
+        Command::Joint(_, _) => state,
         _ => state,
     }
 }
@@ -196,7 +197,7 @@ pub fn hold_joint(given: &mut [u8], sums: &mut [u32], room: bool, command: Comma
     }
 }
 
-// ---- the refusals 6 and 7
+// ---- refusal 6
 
 fn either_absent(given: &[u8], id1: u8, id2: u8) -> bool
     requires { ⌜ length (now given) ≡ 256 ⌝ }
@@ -218,17 +219,6 @@ pub fn absent(state: State, given: &[u8], command: Command) -> bool
         Command::Hingeless(id1, id2, _) => either_absent(given, id1, id2),
         Command::Storey(_) => !state.walled,
         Command::Footing(_) => !state.founded,
-        _ => false,
-    }
-}
-
-// Whether a command gives a joint a second time.
-pub fn repeated(given: &[u8], command: Command) -> bool
-    requires { ⌜ length (now given) ≡ 256 ⌝ }
-    ensures { λ r. ⌜ r ≡ repeatedIn (now (given .entry)) command ⌝ }
-{
-    match command {
-        Command::Joint(id, _) => joint_given(given, id),
         _ => false,
     }
 }

@@ -12,11 +12,13 @@ use Rattle.layout.specs.Layouts.{known, knownIn, formsOf, formsIn, widthOfAll, 
 use Rattle.format.specs.Commands.{commandOf, inRange, allInRange, related}
 use Rattle.layout.specs.Operands.{byteAt, readOperands}
 use Rattle.format.specs.Reading.{commandAt}
-use Rattle.context.specs.Context.{Context, nothing, next, given, absent, repeated}
+use Rattle.context.specs.Context.{Context, nothing, next, given, absent}
 use Rattle.rows.specs.Rows.{rowsOf, rowsWith}
-use Rattle.job.specs.Faults.{unknown, cutShort, tooMany, misplaced, outOfRange, faultAt}
-use Rattle.job.specs.Placed.{refused, placedFrom, placed, allRows}
+use Rattle.job.specs.Faults.{unknown, cutShort, tooMany, misplaced, outOfRange, testsAt}
+use Rattle.job.specs.Placed.{refused, placedBy, placedWith, placed, allRows}
 use Rattle.job.specs.Answers.{rowsAnswer, sizeOf}
+use Rattle.job.proofs.AcceptedBefore.{with7}
+use Rattle.job.proofs.PlacedCases.{faultAt}
 
 -- ---- commands
 
@@ -34,10 +36,6 @@ wrongSettings = 0x01 ∷ 0x00 ∷ 0x00 ∷ 0x00 ∷ 0x78 ∷ 0x00 ∷ 0x78 ∷ [
 -- the joint 9: 14 bytes
 abbrev joint : List ℕ
 joint = 0x02 ∷ 0x09 ∷ zeros 12
-
--- with RB above its limit
-abbrev wrongJoint : List ℕ
-wrongJoint = 0x02 ∷ 0x09 ∷ 0xff ∷ zeros 11
 
 -- 3,000 long: 29 bytes
 abbrev column : List ℕ
@@ -83,14 +81,16 @@ pub record Numbers : Type 0 where
   pub no-base : placed (settings ++ storey ++ finish) ≡ refused 6 7
   pub no-soil : placed (settings ++ footing ++ finish) ≡ refused 6 7
   pub no-joint : placed (settings ++ joint ++ hingeless ++ finish) ≡ refused 6 21
-  pub joint-twice : placed (settings ++ joint ++ joint ++ finish) ≡ refused 7 21
-  -- and none: settings, a column and the end are accepted, with one row
+  -- 7 by the tests of document 01 alone
+  pub joint-twice-before : placedWith (with7 testsAt) (settings ++ joint ++ joint ++ finish) ≡ refused 7 21
+  -- and none: settings, a column and the end are accepted, with one row; a joint given again too
   pub no-refusal : sizeOf (settings ++ column ++ finish) ≡ rowsAnswer 1
+  pub joint-again : sizeOf (settings ++ joint ++ joint ++ finish) ≡ rowsAnswer 0
 
 pub numbers : Numbers
 unfolding
-    sizeOf allRows rowsOf rowsWith placed placedFrom faultAt tooMany misplaced known knownIn formsOf formsIn operandsWidth widthOfAll width commandAt commandOf readOperands number numberAfter inRange allInRange formInRange
-    related within withinSigned signed32 bits32 next absent repeated
+    sizeOf allRows rowsOf rowsWith placed placedBy testsAt tooMany misplaced known knownIn formsOf formsIn operandsWidth widthOfAll width commandAt commandOf readOperands number numberAfter inRange allInRange formInRange
+    related within withinSigned signed32 bits32 next absent
 numbers =
     record {
       empty = refl;
@@ -107,11 +107,12 @@ numbers =
       no-base = refl;
       no-soil = refl;
       no-joint = refl;
-      joint-twice = refl;
+      joint-twice-before = refl;
       no-refusal = refl;
+      joint-again = refl;
     }
 
--- ---- the order of trial: 2, 1, 8, 4, 5, 6, 7
+-- ---- the order of trial: 2, 1, 8, 4, 5, 6
 
 -- two faults are present at the command at an offset, and a job is refused there with the number of the first
 abbrev Both : Bool → Bool → List ℕ → ℕ → ℕ → Type 0
@@ -121,12 +122,9 @@ Both first second job number offset = (first ≡ true) × (second ≡ true) × (
 abbrev Last : Bool → List ℕ → Context → ℕ → Type 0
 Last other command h number = (tooMany (byteAt command 0) 4096 ≡ true) × (other ≡ true) × (faultAt command 0 4096 h ≡ number)
 
--- what holds after settings, and after a joint too
+-- what holds after settings
 abbrev begun : Context
 begun = next nothing (commandAt settings 0)
-
-abbrev jointed : Context
-jointed = next begun (commandAt joint 0)
 
 -- the jobs
 abbrev unknownFirst : List ℕ
@@ -141,9 +139,6 @@ settingsCut = 0x01 ∷ zeros 2
 abbrev storeyCut : List ℕ
 storeyCut = settings ++ 0x07 ∷ zeros 23
 
-abbrev jointCut : List ℕ
-jointCut = settings ++ joint ++ 0x02 ∷ 0x09 ∷ []
-
 abbrev wrongAgain : List ℕ
 wrongAgain = settings ++ wrongSettings ++ finish
 
@@ -153,21 +148,16 @@ storeyFirst = storey ++ finish
 abbrev wrongNoBase : List ℕ
 wrongNoBase = settings ++ wrongStorey ++ finish
 
-abbrev wrongTwice : List ℕ
-wrongTwice = settings ++ joint ++ wrongJoint ++ finish
-
--- 2 before 4; 1 before 4, 5, 6, 7; 4 before 5, 6; 5 before 6, 7
+-- 2 before 4; 1 before 4, 5, 6; 4 before 5, 6; 5 before 6
 pub record OrderOfTrial : Type 0 where
   pub unknown-misplaced : Both (unknown unknownFirst 0) (misplaced (byteAt unknownFirst 0) false) unknownFirst 2 0
   pub cut-misplaced : Both (cutShort columnCut 0) (misplaced (byteAt columnCut 0) false) columnCut 1 0
   pub cut-range : Both (cutShort settingsCut 0) (outOfRange (commandAt settingsCut 0)) settingsCut 1 0
   pub cut-absent : Both (cutShort storeyCut 7) (absent begun (commandAt storeyCut 7)) storeyCut 1 7
-  pub cut-repeated : Both (cutShort jointCut 21) (repeated jointed (commandAt jointCut 21)) jointCut 1 21
   pub misplaced-range : Both (misplaced (byteAt wrongAgain 7) true) (outOfRange (commandAt wrongAgain 7)) wrongAgain 4 7
   pub misplaced-absent : Both (misplaced (byteAt storeyFirst 0) false) (absent nothing (commandAt storeyFirst 0)) storeyFirst 4 0
   pub range-absent : Both (outOfRange (commandAt wrongNoBase 7)) (absent begun (commandAt wrongNoBase 7)) wrongNoBase 5 7
-  pub range-repeated : Both (outOfRange (commandAt wrongTwice 21)) (repeated jointed (commandAt wrongTwice 21)) wrongTwice 5 21
-  -- a 4,097th command: 2 and 1 before 8; 8, not for the one before it nor for the end; 8 before 4, 5, 6, 7
+  -- a 4,097th command: 2 and 1 before 8; 8, not for the one before it nor for the end; 8 before 4, 5, 6
   pub unknown-many : Last (unknown unknownFirst 0) unknownFirst begun 2
   pub cut-many : Last (cutShort columnCut 0) columnCut begun 1
   pub many : faultAt column 0 4096 begun ≡ 8
@@ -176,23 +166,20 @@ pub record OrderOfTrial : Type 0 where
   pub many-misplaced : Last (misplaced (byteAt settings 0) (given (begun .settings))) settings begun 8
   pub many-range : Last (outOfRange (commandAt wrongColumn 0)) wrongColumn begun 8
   pub many-absent : Last (absent begun (commandAt storey 0)) storey begun 8
-  pub many-repeated : Last (repeated jointed (commandAt joint 0)) joint jointed 8
 
 pub order-of-trial : OrderOfTrial
 unfolding
-    placed placedFrom faultAt tooMany misplaced known knownIn formsOf formsIn operandsWidth widthOfAll width commandAt commandOf readOperands number numberAfter inRange allInRange formInRange
-    related within withinSigned signed32 bits32 next absent repeated
+    placed placedBy testsAt tooMany misplaced known knownIn formsOf formsIn operandsWidth widthOfAll width commandAt commandOf readOperands number numberAfter inRange allInRange formInRange
+    related within withinSigned signed32 bits32 next absent
 order-of-trial =
     record {
       unknown-misplaced = (refl, refl, refl);
       cut-misplaced = (refl, refl, refl);
       cut-range = (refl, refl, refl);
       cut-absent = (refl, refl, refl);
-      cut-repeated = (refl, refl, refl);
       misplaced-range = (refl, refl, refl);
       misplaced-absent = (refl, refl, refl);
       range-absent = (refl, refl, refl);
-      range-repeated = (refl, refl, refl);
       unknown-many = (refl, refl, refl);
       cut-many = (refl, refl, refl);
       many = refl;
@@ -201,5 +188,4 @@ order-of-trial =
       many-misplaced = (refl, refl, refl);
       many-range = (refl, refl, refl);
       many-absent = (refl, refl, refl);
-      many-repeated = (refl, refl, refl);
     }

@@ -2,44 +2,42 @@
 -- command. Assumes nothing.
 use mathlib.Core.Path.{_≡_, refl, sym, ap, _∙_, subst}
 use mathlib.Core.Bool.{Bool, true, false, not, cond}
-use mathlib.Core.List.{List, [], _∷_, _++_}
+use mathlib.Core.List.{List, _++_}
 use Prim.Native.Nat.{ℕ, zero, suc, _+_, _≤_, _<_}
 use native.Mathlib.Omega.{arith}
 use lib.Dec.{T, eqb, leb, lit≤, T-not}
-use lib.ListN.{length, drop, length-append, length-drop, List·getD-append}
-use lib.Seq.{take-append-le, drop-append-le}
-use borrow.Author.Tests.{le-ltb}
-use Rattle.layout.specs.declared.Form.{Form}
-use Rattle.layout.specs.Forms.{width}
-use Rattle.layout.specs.Layouts.{formsOf, widthOfAll, operandsWidth}
-use Rattle.layout.specs.Operands.{byteAt, readOperands}
+use lib.ListN.{length, length-append, List·getD-append}
+use Rattle.layout.specs.Layouts.{operandsWidth}
+use Rattle.layout.specs.Operands.{byteAt}
 use Rattle.format.specs.Reading.{commandAt}
 use Rattle.layout.proofs.Widths.{widths}
-use Rattle.context.specs.Context.{Context, nothing, next, given, absent, repeated}
-use Rattle.job.specs.Faults.{unknown, afterCommand, cutShort, tooMany, misplaced, outOfRange, faultAt}
-use Rattle.job.specs.Placed.{Placed, Job, refused, accepted, before, placedFrom, placed}
+use Rattle.context.specs.Context.{Context, nothing, next, given, absent}
+use Rattle.job.specs.Faults.{unknown, afterCommand, cutShort, tooMany, misplaced, outOfRange, testsAt}
+use Rattle.job.specs.Placed.{Placed, Job, refused, accepted, before, placedBy, placed}
 use Rattle.job.proofs.Simulation.{faultless}
-use Rattle.job.proofs.PlacedCases.{placedAt, restAfter, placed-fault, placed-more, placed-goes, by-cases}
+use Rattle.job.proofs.Front.{byte-in-front, command-in-front, fault-in-front}
+use Rattle.job.proofs.PlacedCases.{faultAt, not-both, placedAt, restAfter, placed-fault, placed-more, placed-goes, by-cases}
 
 -- ---- where a refusal stands, and its number
 
--- the number of a fault is at most 8, and it is not 3, that of bytes after the end
+-- the number of a fault is at most 8, it is not 3, that of bytes after the end, and not 7
 record FaultNumber (n : ℕ) : Type 0 where
   pub most : n ≤ 8
   pub other : n ≡ 3 → ⊥
+  pub not-seven : n ≡ 7 → ⊥
 
 fault-number : (job : List ℕ) (at count : ℕ) (h : Context) → FaultNumber (faultAt job at count h)
-unfolding faultAt
+unfolding testsAt
 fault-number job at count h =
-    pick (unknown job at) 2 tt tt (pick (cutShort job at) 1 tt tt (pick (tooMany (byteAt job at) count) 8 tt tt (pick (misplaced (byteAt job at) (given (h .settings))) 4 tt tt
-    (pick (outOfRange (commandAt job at)) 5 tt tt (pick (absent h (commandAt job at)) 6 tt tt (pick (repeated h (commandAt job at)) 7 tt tt (is 0 tt tt)))))))
+    pick (unknown job at) 2 tt tt tt (pick (cutShort job at) 1 tt tt tt (pick (tooMany (byteAt job at) count) 8 tt tt tt (pick (misplaced (byteAt job at) (given (h .settings))) 4 tt tt tt
+    (pick (outOfRange (commandAt job at)) 5 tt tt tt (pick (absent h (commandAt job at)) 6 tt tt tt (is 0 tt tt tt))))))
   where
-    is : (n : ℕ) → T (leb n 8) → T (not (eqb n 3)) → FaultNumber n
-    is n l t = record { most = lit≤ l; other = λ e. T-not (eqb n 3) t (rw e tt) }
+    is : (n : ℕ) → T (leb n 8) → T (not (eqb n 3)) → T (not (eqb n 7)) → FaultNumber n
+    is n l t s = record { most = lit≤ l; other = λ e. T-not (eqb n 3) t (rw e tt); not-seven = λ e. T-not (eqb n 7) s (rw e tt) }
 
-    pick : (t : Bool) (m : ℕ) {n : ℕ} → T (leb m 8) → T (not (eqb m 3)) → FaultNumber n → FaultNumber (cond t m n)
-    pick true m l o r = is m l o
-    pick false m l o r = r
+    pick : (t : Bool) (m : ℕ) {n : ℕ} → T (leb m 8) → T (not (eqb m 3)) → T (not (eqb m 7)) → FaultNumber n → FaultNumber (cond t m n)
+    pick true m l o s r = is m l o s
+    pick false m l o s r = r
 
 -- a refusal of the commands from `at` on
 record Stands (job : List ℕ) (at number offset : ℕ) : Type 0 where
@@ -47,24 +45,27 @@ record Stands (job : List ℕ) (at number offset : ℕ) : Type 0 where
   pub inside : offset ≤ length job
   pub least : 1 ≤ number
   pub most : number ≤ 8
+  pub not-seven : number ≡ 7 → ⊥
 
 abbrev Standing : List ℕ → ℕ → Job → Type 0
 Standing job at (refused number offset) = Stands job at number offset
 Standing job at (accepted ps) = Unit {0}
 
-standing : (n : ℕ) (job : List ℕ) (at count : ℕ) (h : Context) → at ≤ length job → Standing job at (placedFrom n job at count h)
-unfolding placedFrom
-standing zero job at count h w = record { from = omega arith; inside = w; least = lit≤ tt; most = lit≤ tt }
+standing : (n : ℕ) (job : List ℕ) (at count : ℕ) (h : Context) → at ≤ length job → Standing job at (placedBy testsAt n job at count h)
+unfolding placedBy
+standing zero job at count h w = record { from = omega arith; inside = w; least = lit≤ tt; most = lit≤ tt; not-seven = λ e. omega arith }
 standing (suc n) job at count h w =
-    by-cases n job at count h (Standing job at)
-    (λ l. record { from = w; inside = omega arith; least = lit≤ tt; most = lit≤ tt })
-    (λ l k e. record { from = omega arith; inside = w; least = omega arith; most = omega (arith, fault-number job at count h .most) })
-    (λ l e b m. record { from = omega arith; inside = omega arith; least = lit≤ tt; most = lit≤ tt })
+    by-cases testsAt n job at count h (Standing job at)
+    (λ l. record { from = w; inside = omega arith; least = lit≤ tt; most = lit≤ tt; not-seven = λ e. omega arith })
+    (λ l k e.
+    let f = fault-number job at count h in
+    record { from = omega arith; inside = w; least = omega arith; most = omega (arith, f .most); not-seven = λ s. f .not-seven (e ∙ s) })
+    (λ l e b m. record { from = omega arith; inside = omega arith; least = lit≤ tt; most = lit≤ tt; not-seven = λ e. omega arith })
     (λ l e b m. tt)
-    (λ l e b. earlier (restAfter n job at count h) (standing n job (afterCommand job at) (count + 1) (next h (commandAt job at)) (faultless job at count h e .whole)))
+    (λ l e b. earlier (restAfter testsAt n job at count h) (standing n job (afterCommand job at) (count + 1) (next h (commandAt job at)) (faultless job at count h e .whole)))
   where
     earlier : (j : Job) → Standing job (afterCommand job at) j → Standing job at (before (placedAt job at h) j)
-    earlier (refused number offset) s = record { from = omega (arith, s .from); inside = s .inside; least = s .least; most = s .most }
+    earlier (refused number offset) s = record { from = omega (arith, s .from); inside = s .inside; least = s .least; most = s .most; not-seven = s .not-seven }
     earlier (accepted ps) s = tt
 
 module _ (job : List ℕ) (number offset : ℕ) (e : placed job ≡ refused number offset) where
@@ -80,43 +81,16 @@ module _ (job : List ℕ) (number offset : ℕ) (e : placed job ≡ refused numb
   pub refused-number : (1 ≤ number) × (number ≤ 8)
   refused-number = (stands .least, stands .most)
 
--- ---- what is read of a command lies in its bytes
-
-reads-first : (fs : List Form) (bytes more : List ℕ) → widthOfAll fs ≤ length bytes → readOperands fs (bytes ++ more) ≡ readOperands fs bytes
-unfolding readOperands widthOfAll
-reads-first [] bytes more h = refl
-reads-first (f ∷ fs) bytes more h =
-    let l : width f ≤ length bytes = omega arith in
-    let m : widthOfAll fs ≤ length (drop (width f) bytes) = omega (arith, length-drop (width f) bytes) in
-    rw (take-append-le (width f) bytes more l, drop-append-le (width f) bytes more l, reads-first fs (drop (width f) bytes) more m)
-
--- a command that lies in the front of a job, whatever follows
-module _ (front : List ℕ) (at : ℕ) (w : afterCommand front at ≤ length front) (more : List ℕ) where
-  byte-in-front : byteAt (front ++ more) at ≡ byteAt front at
-  byte-in-front = List·getD-append front more 0 at (omega arith)
-
-  command-in-front : commandAt (front ++ more) at ≡ commandAt front at
-  unfolding commandAt operandsWidth
-  command-in-front =
-      let l : at + 1 ≤ length front = omega arith in
-      let m : widthOfAll (formsOf (byteAt front at)) ≤ length (drop (at + 1) front) = omega (arith, length-drop (at + 1) front) in
-      rw (byte-in-front, drop-append-le (at + 1) front more l, reads-first (formsOf (byteAt front at)) (drop (at + 1) front) more m)
-
-  fault-in-front : (count : ℕ) (h : Context) → faultAt (front ++ more) at count h ≡ faultAt front at count h
-  unfolding faultAt
-  fault-in-front count h =
-      let l : afterCommand front at ≤ length (front ++ more) = omega (arith, length-append front more) in
-      rw (byte-in-front, command-in-front, le-ltb (length (front ++ more)) (afterCommand front at) l, le-ltb (length front) (afterCommand front at) w)
+  -- and never with 7 (02, No. 1: "Refusal 7 no longer occurs")
+  pub never-seven : number ≡ 7 → ⊥
+  never-seven = stands .not-seven
 
 -- ---- a refusal stays
 
 -- what is behind a command is refused where the whole is
 behind : (p : Placed) (j : Job) {number offset : ℕ} → before p j ≡ refused number offset → j ≡ refused number offset
 behind p (refused number offset) e = e
-behind p (accepted ps) e = absurd (no e)
-  where
-    no : {number offset : ℕ} → accepted (p ∷ ps) ≡ refused number offset → ⊥
-    no e = let z : _≡_ {A = ℕ} 0 1 = cc in omega arith
+behind p (accepted ps) e = absurd (not-both (sym e))
 
 -- where the refusal is of a command, the front holds this whole; where it is 3, its offset lies in the front
 module _ (front a b : List ℕ) (number offset : ℕ) (w : offset < length front) (whole : (number ≡ 3 → ⊥) → afterCommand front offset ≤ length front) where
@@ -129,7 +103,7 @@ module _ (front a b : List ℕ) (number offset : ℕ) (w : offset < length front
 
   -- a job that begins as this one does is refused as this one is
   abbrev Kept : ℕ → ℕ → ℕ → Context → Job → Type 0
-  Kept n at count h j = j ≡ refused number offset → placedFrom n (front ++ b) at count h ≡ refused number offset
+  Kept n at count h j = j ≡ refused number offset → placedBy testsAt n (front ++ b) at count h ≡ refused number offset
 
   -- the cases of a step
   module _ (n at count : ℕ) (h : Context) (l : at < length (front ++ a)) where
@@ -138,7 +112,7 @@ module _ (front a b : List ℕ) (number offset : ℕ) (w : offset < length front
         let q : offset ≡ at = cc in
         let r : number ≡ faultAt (front ++ a) at count h = cc in
         let v : afterCommand front at ≤ length front = rw q at (whole (λ t. fault-number (front ++ a) at count h .other (sym r ∙ t))) in
-        placed-fault n (front ++ b) at count h (longer b (omega arith)) k (fault-same at count h v ∙ f) ∙ e
+        placed-fault testsAt n (front ++ b) at count h (longer b (omega arith)) k (fault-same at count h v ∙ f) ∙ e
 
     module _ (f : faultAt (front ++ a) at count h ≡ 0) where
       kept-after : byteAt (front ++ a) at ≡ 0 → Kept (suc n) at count h (refused 3 (at + 1))
@@ -147,35 +121,32 @@ module _ (front a b : List ℕ) (number offset : ℕ) (w : offset < length front
           let u : at + 1 < length front = omega arith in
           let y : byteAt front at ≡ 0 = sym (List·getD-append front a 0 at (omega arith)) ∙ z in
           let v : afterCommand front at ≤ length front = omega (arith, ap operandsWidth y ∙ widths .finish) in
-          placed-more n (front ++ b) at count h (longer b (omega arith)) (fault-same at count h v ∙ f) (byte-in-front front at v b ∙ y) (longer b u) ∙ e
+          placed-more testsAt n (front ++ b) at count h (longer b (omega arith)) (fault-same at count h v ∙ f) (byte-in-front front at v b ∙ y) (longer b u) ∙ e
 
-      kept-on : (byteAt (front ++ a) at ≡ 0 → ⊥) → Kept n (afterCommand (front ++ a) at) (count + 1) (next h (commandAt (front ++ a) at)) (restAfter n (front ++ a) at count h) →
-          Kept (suc n) at count h (before (placedAt (front ++ a) at h) (restAfter n (front ++ a) at count h))
+      kept-on : (byteAt (front ++ a) at ≡ 0 → ⊥) → Kept n (afterCommand (front ++ a) at) (count + 1) (next h (commandAt (front ++ a) at)) (restAfter testsAt n (front ++ a) at count h) →
+          Kept (suc n) at count h (before (placedAt (front ++ a) at h) (restAfter testsAt n (front ++ a) at count h))
       kept-on z ih e =
-          let r = behind (placedAt (front ++ a) at h) (restAfter n (front ++ a) at count h) e in
+          let r = behind (placedAt (front ++ a) at h) (restAfter testsAt n (front ++ a) at count h) e in
           let s : Stands (front ++ a) (afterCommand (front ++ a) at) number offset =
           subst (Standing (front ++ a) (afterCommand (front ++ a) at)) r
           (standing n (front ++ a) (afterCommand (front ++ a) at) (count + 1) (next h (commandAt (front ++ a) at)) (faultless (front ++ a) at count h f .whole)) in
           let y : byteAt (front ++ a) at ≡ byteAt front at = List·getD-append front a 0 at (omega (arith, s .from)) in
           let v : afterCommand front at ≤ length front = omega (arith, rw y at (s .from)) in
-          let g : restAfter n (front ++ b) at count h ≡ refused number offset =
+          let g : restAfter testsAt n (front ++ b) at count h ≡ refused number offset =
           rw (byte-in-front front at v b, command-in-front front at v b) (rw (y, command-in-front front at v a) at (ih r)) in
-          placed-goes n (front ++ b) at count h (longer b (omega arith)) (fault-same at count h v ∙ f) (λ q. z (y ∙ sym (byte-in-front front at v b) ∙ q)) ∙ ap (before (placedAt (front ++ b) at h)) g
+          placed-goes testsAt n (front ++ b) at count h (longer b (omega arith)) (fault-same at count h v ∙ f) (λ q. z (y ∙ sym (byte-in-front front at v b) ∙ q)) ∙ ap (before (placedAt (front ++ b) at h)) g
 
-  kept : (n at count : ℕ) (h : Context) → Kept n at count h (placedFrom n (front ++ a) at count h)
-  unfolding placedFrom
+  kept : (n at count : ℕ) (h : Context) → Kept n at count h (placedBy testsAt n (front ++ a) at count h)
+  unfolding placedBy
   kept zero at count h = λ e. e
   kept (suc n) at count h =
-      by-cases n (front ++ a) at count h (Kept (suc n) at count h)
+      by-cases testsAt n (front ++ a) at count h (Kept (suc n) at count h)
       (λ l e. let q : length (front ++ a) ≡ offset = cc in absurd (beyond q (length-append front a)))
-      (kept-fault n at count h) (λ l f z m. kept-after n at count h l f z) (λ l f z m e. absurd (differ e))
+      (kept-fault n at count h) (λ l f z m. kept-after n at count h l f z) (λ l f z m e. absurd (not-both (sym e)))
       (λ l f z. kept-on n at count h l f z (kept n (afterCommand (front ++ a) at) (count + 1) (next h (commandAt (front ++ a) at))))
     where
       beyond : length (front ++ a) ≡ offset → length (front ++ a) ≡ length front + length a → ⊥
       beyond q l = omega arith
-
-      differ : accepted [] ≡ refused number offset → ⊥
-      differ e = let z : _≡_ {A = ℕ} 0 1 = cc in omega arith
 
 module _ (front a b : List ℕ) where
   -- A job with a refusal stays refused at the same place whatever bytes follow a faulty command that is not cut short: `front`

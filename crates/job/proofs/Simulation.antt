@@ -22,19 +22,19 @@ use Rattle.format.specs.Reading.{commandAt}
 use Rattle.format.proofs.CommandBytes.{command-above}
 use Rattle.format.proofs.CommandRead.{byte-read}
 use Rattle.context.specs.declared.State.{State}
-use Rattle.context.specs.Context.{Context, given, next, absent, repeated}
+use Rattle.context.specs.Context.{Context, given, next, absent}
 use Rattle.context.specs.Running.{roomFor, JointTable, nextState, nextSums, nextJoints}
-use Rattle.context.proofs.Shown.{Shows, IdsFit, InPlace, settings-given, absent-same, repeated-same, shows-next}
+use Rattle.context.proofs.Shown.{Shows, IdsFit, InPlace, settings-given, absent-same, shows-next}
 use Rattle.rows.specs.Rows.{rowsOf, words}
 use Rattle.rows.specs.Writing.{rowsFrom, storedAll}
 use Rattle.rows.proofs.Laws.{rows-count, stored-length, storedAll-append, storedAll-none}
 use Rattle.rows.proofs.RowsSame.{rows-same, rows-as-many}
 use Rattle.job.specs.declared.Place.{Place}
 use Rattle.job.specs.declared.Walked.the-variants.{Refused, Finished}
-use Rattle.job.specs.Faults.{tooMany, misplaced, afterCommand, firstOf, faultAt, operandNamed}
-use Rattle.job.specs.Placed.{Placed, Job, refused, accepted, before, placedFrom, rowsAt, allRows}
+use Rattle.job.specs.Faults.{tooMany, misplaced, afterCommand, firstOf, testsAt, operandNamed}
+use Rattle.job.specs.Placed.{Placed, Job, refused, accepted, before, placedBy, rowsAt, allRows}
 use Rattle.job.specs.Walking.{faultFrom, Final, rowsHere, nextPlace, outcome, walkFrom}
-use Rattle.job.proofs.PlacedCases.{placedAt, restAfter, placed-none, placed-fault, placed-more, placed-end, placed-goes}
+use Rattle.job.proofs.PlacedCases.{faultAt, placedAt, restAfter, placed-none, placed-fault, placed-more, placed-end, placed-goes}
 use Rattle.job.proofs.Steps.{walk-step-suc, onward, count-below, no-end, faulty, more-bytes, finished, goes-on}
 
 -- ---- a command read from bytes has ids that are bytes
@@ -72,13 +72,9 @@ in-place-of byte v t = each-byte (λ b. misplaced b (t .given) ≡ false → InP
 -- ---- the fault off the state is the fault off the context
 
 fault-same : (room : Bool) (job : List ℕ) (p : Place) (joints : JointTable) (h : Context) → Bytes job → Shows room (p .state) joints h → faultFrom job p joints ≡ faultAt job (p .offset) (p .count) h
-unfolding faultFrom faultAt
+unfolding faultFrom testsAt
 fault-same room job p joints h b s =
-    rw (
-      settings-given room (p .state) joints h s,
-      absent-same room (p .state) joints h s (commandAt job (p .offset)) (ids-read job (p .offset) b),
-      repeated-same room (p .state) joints h s (commandAt job (p .offset)) (ids-read job (p .offset) b),
-    )
+    rw (settings-given room (p .state) joints h s, absent-same room (p .state) joints h s (commandAt job (p .offset)) (ids-read job (p .offset) b))
 
 -- no fault: each test has passed
 pub record Faultless (job : List ℕ) (offset count : ℕ) (h : Context) : Type 0 where
@@ -88,29 +84,27 @@ pub record Faultless (job : List ℕ) (offset count : ℕ) (h : Context) : Type 
   pub settings : misplaced (byteAt job offset) (given (h .settings)) ≡ false
   pub range : inRange (commandAt job offset) ≡ true
   pub present : absent h (commandAt job offset) ≡ false
-  pub new : repeated h (commandAt job offset) ≡ false
 
 pub faultless : (job : List ℕ) (offset count : ℕ) (h : Context) → faultAt job offset count h ≡ 0 → Faultless job offset count h
-unfolding faultAt
+unfolding testsAt
 faultless job offset count h =
     by (known (byteAt job offset)) (ltb (length job) (afterCommand job offset)) (tooMany (byteAt job offset) count) (misplaced (byteAt job offset) (given (h .settings)))
-    (inRange (commandAt job offset)) (absent h (commandAt job offset)) (repeated h (commandAt job offset)) refl refl refl refl refl refl refl
+    (inRange (commandAt job offset)) (absent h (commandAt job offset)) refl refl refl refl refl refl
   where
     none : (k : ℕ) → suc k ≡ 0 → ⊥
     none k e = omega arith
 
-    by : (k c m g r a d : Bool) → known (byteAt job offset) ≡ k → ltb (length job) (afterCommand job offset) ≡ c → tooMany (byteAt job offset) count ≡ m →
-        misplaced (byteAt job offset) (given (h .settings)) ≡ g → inRange (commandAt job offset) ≡ r → absent h (commandAt job offset) ≡ a → repeated h (commandAt job offset) ≡ d →
-        firstOf ((not k, 2) ∷ (c, 1) ∷ (m, 8) ∷ (g, 4) ∷ (not r, 5) ∷ (a, 6) ∷ (d, 7) ∷ []) ≡ 0 → Faultless job offset count h
-    by false c m g r a d e1 e2 e3 e4 e5 e6 e7 z = absurd (none 1 z)
-    by true true m g r a d e1 e2 e3 e4 e5 e6 e7 z = absurd (none 0 z)
-    by true false true g r a d e1 e2 e3 e4 e5 e6 e7 z = absurd (none 7 z)
-    by true false false true r a d e1 e2 e3 e4 e5 e6 e7 z = absurd (none 3 z)
-    by true false false false false a d e1 e2 e3 e4 e5 e6 e7 z = absurd (none 4 z)
-    by true false false false true true d e1 e2 e3 e4 e5 e6 e7 z = absurd (none 5 z)
-    by true false false false true false true e1 e2 e3 e4 e5 e6 e7 z = absurd (none 6 z)
-    by true false false false true false false e1 e2 e3 e4 e5 e6 e7 z =
-        record { known-byte = e1; whole = ltb-false (length job) (afterCommand job offset) e2; few = e3; settings = e4; range = e5; present = e6; new = e7 }
+    by : (k c m g r a : Bool) → known (byteAt job offset) ≡ k → ltb (length job) (afterCommand job offset) ≡ c → tooMany (byteAt job offset) count ≡ m →
+        misplaced (byteAt job offset) (given (h .settings)) ≡ g → inRange (commandAt job offset) ≡ r → absent h (commandAt job offset) ≡ a →
+        firstOf ((not k, 2) ∷ (c, 1) ∷ (m, 8) ∷ (g, 4) ∷ (not r, 5) ∷ (a, 6) ∷ []) ≡ 0 → Faultless job offset count h
+    by false c m g r a e1 e2 e3 e4 e5 e6 z = absurd (none 1 z)
+    by true true m g r a e1 e2 e3 e4 e5 e6 z = absurd (none 0 z)
+    by true false true g r a e1 e2 e3 e4 e5 e6 z = absurd (none 7 z)
+    by true false false true r a e1 e2 e3 e4 e5 e6 z = absurd (none 3 z)
+    by true false false false false a e1 e2 e3 e4 e5 e6 z = absurd (none 4 z)
+    by true false false false true true e1 e2 e3 e4 e5 e6 z = absurd (none 5 z)
+    by true false false false true false e1 e2 e3 e4 e5 e6 z =
+        record { known-byte = e1; whole = ltb-false (length job) (afterCommand job offset) e2; few = e3; settings = e4; range = e5; present = e6 }
 
 -- ---- the step
 
@@ -202,10 +196,10 @@ going-on room n job p joints memory h g f b =
 abbrev Simulates : Bool → ℕ → List ℕ → Type 0
 Simulates room n job =
     (p : Place) (joints : JointTable) (memory : List ℤ) (h : Context) → Going room n job p joints memory h →
-    Matches job (placedFrom n job (p .offset) (p .count) h) (walkFrom room n job p joints memory) (p .rows) memory
+    Matches job (placedBy testsAt n job (p .offset) (p .count) h) (walkFrom room n job p joints memory) (p .rows) memory
 
 step : (room : Bool) (n : ℕ) (job : List ℕ) (p : Place) (joints : JointTable) (memory : List ℤ) (h : Context) → Going room (suc n) job p joints memory h → Simulates room n job →
-    Matches job (placedFrom (suc n) job (p .offset) (p .count) h) (walkFrom room (suc n) job p joints memory) (p .rows) memory
+    Matches job (placedBy testsAt (suc n) job (p .offset) (p .count) h) (walkFrom room (suc n) job p joints memory) (p .rows) memory
 unfolding nextPlace allRows storedAll
 step room n job p joints memory h g ih = reached (decLe (length job) (p .offset))
   where
@@ -219,31 +213,31 @@ step room n job p joints memory h g ih = reached (decLe (length job) (p .offset)
     same = fault-same room job p joints h (g .bytes) (g .shows)
 
     T : Type 0
-    T = Matches job (placedFrom (suc n) job (p .offset) (p .count) h) (walkFrom room (suc n) job p joints memory) (p .rows) memory
+    T = Matches job (placedBy testsAt (suc n) job (p .offset) (p .count) h) (walkFrom room (suc n) job p joints memory) (p .rows) memory
 
     at-end : p .offset < length job → faultAt job (p .offset) (p .count) h ≡ 0 → byteAt job (p .offset) ≡ 0 → Dec (p .offset + 1 < length job) → T
-    at-end l e z (yes m) = both-same job (p .rows) memory (placed-more n job (p .offset) (p .count) h l e z m) (stepped _ (more-bytes job p joints memory rest l (same ∙ e) z m)) refl
+    at-end l e z (yes m) = both-same job (p .rows) memory (placed-more testsAt n job (p .offset) (p .count) h l e z m) (stepped _ (more-bytes job p joints memory rest l (same ∙ e) z m)) refl
     at-end l e z (no m) =
-        both-same job (p .rows) memory (placed-end n job (p .offset) (p .count) h l e z (omega arith)) (stepped _ (finished job p joints memory rest l (same ∙ e) z (omega arith)))
+        both-same job (p .rows) memory (placed-end testsAt n job (p .offset) (p .count) h l e z (omega arith)) (stepped _ (finished job p joints memory rest l (same ∙ e) z (omega arith)))
         (ap Finished (sym (add-zero (p .rows))), refl)
 
     no-fault : p .offset < length job → faultAt job (p .offset) (p .count) h ≡ 0 → Dec (byteAt job (p .offset) ≡ 0) → T
     no-fault l e (yes z) = at-end l e z (decLe (suc (p .offset + 1)) (length job))
     no-fault l e (no z) =
         let f = faultless job (p .offset) (p .count) h e in
-        both-same job (p .rows) memory (placed-goes n job (p .offset) (p .count) h l e z) (stepped _ (goes-on job p joints memory rest l (same ∙ e) z))
-        (in-front job (placedAt job (p .offset) h) (restAfter n job (p .offset) (p .count) h) rest (p .rows) memory
+        both-same job (p .rows) memory (placed-goes testsAt n job (p .offset) (p .count) h l e z) (stepped _ (goes-on job p joints memory rest l (same ∙ e) z))
+        (in-front job (placedAt job (p .offset) h) (restAfter testsAt n job (p .offset) (p .count) h) rest (p .rows) memory
         (rowsHere room job p joints) (rows-alike job p joints h (g .bytes) f memory room (g .room-is) (g .shows))
         (ih (nextPlace room job p joints) (nextJoints room joints (commandAt job (p .offset))) (storedAll memory (p .rows) (rowsHere room job p joints)) (next h (commandAt job (p .offset)))
         (going-on room n job p joints memory h g f z)))
 
     in-job : p .offset < length job → (k : ℕ) → faultAt job (p .offset) (p .count) h ≡ k → T
     in-job l zero e = no-fault l e (ℕ-discrete (byteAt job (p .offset)) 0)
-    in-job l (suc k) e = both-same job (p .rows) memory (placed-fault n job (p .offset) (p .count) h l k e) (stepped _ (faulty job p joints memory rest l k (same ∙ e))) refl
+    in-job l (suc k) e = both-same job (p .rows) memory (placed-fault testsAt n job (p .offset) (p .count) h l k e) (stepped _ (faulty job p joints memory rest l k (same ∙ e))) refl
 
     reached : Dec (length job ≤ p .offset) → T
     reached (yes l) =
-        both-same job (p .rows) memory (placed-none n job (p .offset) (p .count) h l) (stepped _ (no-end job p joints memory rest l)) (ap (λ (o : ℕ). Refused 1 o 0) (omega (arith, g .offset)))
+        both-same job (p .rows) memory (placed-none testsAt n job (p .offset) (p .count) h l) (stepped _ (no-end job p joints memory rest l)) (ap (λ (o : ℕ). Refused 1 o 0) (omega (arith, g .offset)))
     reached (no l) = in-job (omega arith) (faultAt job (p .offset) (p .count) h) refl
 
 pub simulates : (room : Bool) (n : ℕ) (job : List ℕ) → Simulates room n job

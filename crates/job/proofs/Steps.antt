@@ -13,13 +13,13 @@ use Rattle.layout.specs.Operands.{byteAt}
 use Rattle.format.specs.declared.Command.{Command}
 use Rattle.format.specs.Commands.{inRange}
 use Rattle.format.specs.Reading.{commandAt}
-use Rattle.context.specs.Running.{JointTable, nextJoints, absentIn, repeatedIn}
+use Rattle.context.specs.Running.{JointTable, nextJoints, absentIn}
 use Rattle.rows.specs.Writing.{storedAll}
 use Rattle.job.specs.declared.Place.{Place}
 use Rattle.job.specs.declared.Walked.{Walked}
 use Rattle.job.specs.declared.Walked.the-variants.{Refused, Finished, Paused}
 use Rattle.job.specs.Faults.{tooMany, misplaced, afterCommand, firstOf, operandNamed}
-use Rattle.job.specs.Walking.{earlyFault, faultFrom, Final, rowsHere, nextPlace, outcome, walkFrom}
+use Rattle.job.specs.Walking.{earlyTests, earlyFault, faultFrom, Final, rowsHere, nextPlace, outcome, walkFrom}
 
 abbrev pub stop : JointTable → List ℤ → Walked → Final
 stop joints memory a = record { answer = a; joints = joints; memory = memory }
@@ -81,10 +81,8 @@ first-front ((false, k) ∷ ts) us n e = first-front ts us n e
 pub early-fault : (job : List ℕ) (p : Place) (joints : JointTable) (n : ℕ) → earlyFault (length job) (p .offset) (byteAt job (p .offset)) (p .count) (p .state .given) ≡ suc n → faultFrom job p joints ≡ suc n
 unfolding earlyFault faultFrom
 early-fault job p joints n e =
-    let byte = byteAt job (p .offset) in
-    let early : List (Bool × ℕ) = (not (known byte), 2) ∷ (ltb (length job) (afterCommand job (p .offset)), 1) ∷ (tooMany byte (p .count), 8) ∷ (misplaced byte (p .state .given), 4) ∷ [] in
-    let late : List (Bool × ℕ) = (not (inRange (commandAt job (p .offset))), 5) ∷ (absentIn (p .state) (joints .given) (commandAt job (p .offset)), 6) ∷ (repeatedIn (joints .given) (commandAt job (p .offset)), 7) ∷ [] in
-    first-front early late n e
+    let c = commandAt job (p .offset) in
+    first-front (earlyTests (length job) (p .offset) (byteAt job (p .offset)) (p .count) (p .state .given)) ((not (inRange c), 5) ∷ (absentIn (p .state) (joints .given) c, 6) ∷ []) n e
 
 -- none of them is 5, so that no operand is named
 pub early-named : (bytes at byte count : ℕ) (given : Bool) (c : Command) (n : ℕ) → earlyFault bytes at byte count given ≡ n → operandNamed n c ≡ 0
@@ -135,14 +133,9 @@ module _ (job : List ℕ) (p : Place) (joints : JointTable) (e : Early job p) wh
     unfolding faultFrom
     fault6 a = rw (e .known-byte, le-ltb (length job) (afterCommand job (p .offset)) (e .whole), e .few, e .placed, r, a)
 
-    module _ (a : absentIn (p .state) (joints .given) (commandAt job (p .offset)) ≡ false) where
-      pub fault7 : repeatedIn (joints .given) (commandAt job (p .offset)) ≡ true → faultFrom job p joints ≡ 7
-      unfolding faultFrom
-      fault7 d = rw (e .known-byte, le-ltb (length job) (afterCommand job (p .offset)) (e .whole), e .few, e .placed, r, a, d)
-
-      pub fault0 : repeatedIn (joints .given) (commandAt job (p .offset)) ≡ false → faultFrom job p joints ≡ 0
-      unfolding faultFrom
-      fault0 d = rw (e .known-byte, le-ltb (length job) (afterCommand job (p .offset)) (e .whole), e .few, e .placed, r, a, d)
+    pub fault0 : absentIn (p .state) (joints .given) (commandAt job (p .offset)) ≡ false → faultFrom job p joints ≡ 0
+    unfolding faultFrom
+    fault0 a = rw (e .known-byte, le-ltb (length job) (afterCommand job (p .offset)) (e .whole), e .few, e .placed, r, a)
 
 -- a command that is no end is not the 4,097th
 pub count-below : (byte count : ℕ) → (byte ≡ 0 → ⊥) → tooMany byte count ≡ false → count < 4096

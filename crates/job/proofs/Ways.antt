@@ -11,14 +11,14 @@ use Rattle.format.specs.Commands.{byteOf, inRange, operandAtFault}
 use Rattle.format.specs.Reading.{commandAt}
 use Rattle.format.proofs.CommandRead.{byte-read}
 use Rattle.context.specs.declared.State.{State}
-use Rattle.context.specs.Running.{JointTable, nextState, nextGiven, nextSums, absentIn, repeatedIn}
+use Rattle.context.specs.Running.{JointTable, nextState, nextGiven, nextSums, absentIn}
 use Rattle.rows.specs.Rows.{words}
 use Rattle.rows.specs.Writing.{rowsFrom, storedAll}
 use Rattle.job.specs.declared.Place.{Place}
 use Rattle.job.specs.declared.Walked.the-variants.{Refused, Finished, Paused}
 use Rattle.job.specs.Faults.{afterCommand, operandNamed}
 use Rattle.job.specs.Walking.{Final, earlyFault, faultFrom, outcome, rowsHere}
-use Rattle.job.proofs.Steps.{stop, onward, walk-none, walk-step, no-end, faulty, more-bytes, finished, early-fault, early-named, Early, fault5, fault6, fault7, fault0, count-below}
+use Rattle.job.proofs.Steps.{stop, onward, walk-none, walk-step, no-end, faulty, more-bytes, finished, early-fault, early-named, Early, fault5, fault6, fault0, count-below}
 use Rattle.job.proofs.Stands.{Stands, further, moved}
 
 -- a command that may be read: some are left, it lies in the job, and the tests of its byte have passed
@@ -68,33 +68,29 @@ module _ (room : Bool) (whole : Final) (job : List ℕ) (joints₀ : JointTable)
       absence a = refused-with 5 0 (fault6 job p joints (r .early) ranged (rw e at a)) refl
 
       module _ (a : absentIn (p .state) (joints .given) command ≡ false) where
-        pub repetition : repeatedIn (joints .given) command ≡ true → whole ≡ stop joints rows (Refused 7 (p .offset) 0)
-        repetition d = refused-with 6 0 (fault7 job p joints (r .early) ranged (rw e at a) (rw e at d)) refl
+        no-fault : faultFrom job p joints ≡ 0
+        no-fault = fault0 job p joints (r .early) ranged (rw e at a)
 
-        module _ (d : repeatedIn (joints .given) command ≡ false) where
-          no-fault : faultFrom job p joints ≡ 0
-          no-fault = fault0 job p joints (r .early) ranged (rw e at a) (rw e at d)
+        pub bytes-after : byteAt job (p .offset) ≡ 0 → p .offset + 1 < length job → whole ≡ stop joints rows (Refused 3 (p .offset + 1) 0)
+        bytes-after b m = stepped (r .some-left) _ (more-bytes job p joints rows rest (r .inside) no-fault b m)
 
-          pub bytes-after : byteAt job (p .offset) ≡ 0 → p .offset + 1 < length job → whole ≡ stop joints rows (Refused 3 (p .offset + 1) 0)
-          bytes-after b m = stepped (r .some-left) _ (more-bytes job p joints rows rest (r .inside) no-fault b m)
+        pub done : byteAt job (p .offset) ≡ 0 → length job ≤ p .offset + 1 → whole ≡ stop joints rows (Finished (p .rows))
+        done b m = stepped (r .some-left) _ (finished job p joints rows rest (r .inside) no-fault b m)
 
-          pub done : byteAt job (p .offset) ≡ 0 → length job ≤ p .offset + 1 → whole ≡ stop joints rows (Finished (p .rows))
-          done b m = stepped (r .some-left) _ (finished job p joints rows rest (r .inside) no-fault b m)
+        -- what the command leaves
+        module _ (b : byteAt job (p .offset) ≡ 0 → ⊥) (given sums : List ℕ) (rows′ : List ℤ) (offset written : ℕ) (state : State)
+            (e₁ : given ≡ nextGiven (joints .given) command) (e₂ : sums ≡ nextSums room (joints .sums) command) (e₃ : state ≡ nextState room (p .state) command)
+            (e₄ : rows′ ≡ storedAll rows (p .rows) (map (words (p .offset) (byteOf command)) (rowsFrom state sums command)))
+            (e₅ : written ≡ p .rows + length (rowsFrom state sums command)) (e₆ : offset ≡ afterCommand job (p .offset)) where
+          here : map (words (p .offset) (byteOf command)) (rowsFrom state sums command) ≡ rowsHere room job p joints
+          here =
+              ap (λ (k : Command). map (words (p .offset) (byteOf k)) (rowsFrom state sums k)) e
+              ∙ rows-here room job p joints state sums (r .early) (rw e at e₃) (rw e at e₂)
 
-          -- what the command leaves
-          module _ (b : byteAt job (p .offset) ≡ 0 → ⊥) (given sums : List ℕ) (rows′ : List ℤ) (offset written : ℕ) (state : State)
-              (e₁ : given ≡ nextGiven (joints .given) command) (e₂ : sums ≡ nextSums room (joints .sums) command) (e₃ : state ≡ nextState room (p .state) command)
-              (e₄ : rows′ ≡ storedAll rows (p .rows) (map (words (p .offset) (byteOf command)) (rowsFrom state sums command)))
-              (e₅ : written ≡ p .rows + length (rowsFrom state sums command)) (e₆ : offset ≡ afterCommand job (p .offset)) where
-            here : map (words (p .offset) (byteOf command)) (rowsFrom state sums command) ≡ rowsHere room job p joints
-            here =
-                ap (λ (k : Command). map (words (p .offset) (byteOf k)) (rowsFrom state sums k)) e
-                ∙ rows-here room job p joints state sums (r .early) (rw e at e₃) (rw e at e₂)
-
-            pub on : Stands room whole job joints₀ rows₀ (record { given = given; sums = sums }) rows′ (record { offset = offset; count = p .count + 1; rows = written; state = state }) (left - 1)
-            on =
-                moved room whole job joints₀ rows₀ joints rows p (left - 1) given sums rows′ offset written state
-                (rw e at e₁) (rw e at e₂) (e₄ ∙ ap (storedAll rows (p .rows)) here) e₆
-                (e₅ ∙ ap (λ (n : ℕ). p .rows + n) (sym (length-map (rowsFrom state sums command) (words (p .offset) (byteOf command))) ∙ ap length here)) (rw e at e₃)
-                (further room whole job joints₀ rows₀ joints rows p left s (r .some-left) (r .inside) no-fault b
-                (count-below (byteAt job (p .offset)) (p .count) b (r .early .few)) (r .early .whole) ranged)
+          pub on : Stands room whole job joints₀ rows₀ (record { given = given; sums = sums }) rows′ (record { offset = offset; count = p .count + 1; rows = written; state = state }) (left - 1)
+          on =
+              moved room whole job joints₀ rows₀ joints rows p (left - 1) given sums rows′ offset written state
+              (rw e at e₁) (rw e at e₂) (e₄ ∙ ap (storedAll rows (p .rows)) here) e₆
+              (e₅ ∙ ap (λ (n : ℕ). p .rows + n) (sym (length-map (rowsFrom state sums command) (words (p .offset) (byteOf command))) ∙ ap length here)) (rw e at e₃)
+              (further room whole job joints₀ rows₀ joints rows p left s (r .some-left) (r .inside) no-fault b
+              (count-below (byteAt job (p .offset)) (p .count) b (r .early .few)) (r .early .whole) ranged)

@@ -1,4 +1,5 @@
--- The fault of a command, tried in 01's order: "The walk stops at the first command at fault, trying 2, 1, 8, 4, 5, 6, 7".
+-- The fault of a command, tried in the order of 01 and 02: "The walk stops at the first command at fault, trying 2, 1, 8, 4, 5, 6, 7",
+-- and since 02, No. 1, "Refusal 7 no longer occurs".
 use mathlib.Core.Bool.{Bool, not, _&&_, cond}
 use mathlib.Core.List.{List, [], _∷_}
 use Prim.Native.Nat.{ℕ, _+_}
@@ -9,7 +10,7 @@ use Rattle.format.specs.declared.Command.{Command}
 use Rattle.format.specs.Commands.{inRange, operandAtFault}
 use Rattle.layout.specs.Operands.{byteAt}
 use Rattle.format.specs.Reading.{commandAt}
-use Rattle.context.specs.Context.{Context, given, absent, repeated}
+use Rattle.context.specs.Context.{Context, given, absent}
 
 -- 2: unknown command
 abbrev pub unknown : List ℕ → ℕ → Bool
@@ -40,18 +41,21 @@ abbrev pub firstOf : List (Bool × ℕ) → ℕ
 firstOf [] = 0
 firstOf (t ∷ ts) = cond (t .0) (t .1) (firstOf ts)
 
--- 6 and 7 are `absent` and `repeated`
-unfoldable pub faultAt : List ℕ → ℕ → ℕ → Context → ℕ
-faultAt job at count h =
-    firstOf
-    ((unknown job at, 2)
+-- tests of the command at an offset of a job, after so many commands, with what holds there: each with its number, in the
+-- order of trial
+abbrev pub Tests : Type 0
+Tests = List ℕ → ℕ → ℕ → Context → List (Bool × ℕ)
+
+-- the tests of 01 and 02; 6 is `absent`
+unfoldable pub testsAt : Tests
+testsAt job at count h =
+    (unknown job at, 2)
     ∷ (cutShort job at, 1)
     ∷ (tooMany (byteAt job at) count, 8)
     ∷ (misplaced (byteAt job at) (given (h .settings)), 4)
     ∷ (outOfRange (commandAt job at), 5)
     ∷ (absent h (commandAt job at), 6)
-    ∷ (repeated h (commandAt job at), 7)
-    ∷ [])
+    ∷ []
 
 -- the operand that a refusal names: for 5 the operand at fault, counted from 0; 0 in every other refusal
 abbrev pub operandNamed : ℕ → Command → ℕ

@@ -12,7 +12,7 @@ use Rattle.layout.specs.Operands.{byteAt}
 use Rattle.format.specs.Reading.{commandAt}
 use Rattle.context.specs.Context.{Context, nothing, next}
 use Rattle.rows.specs.Rows.{rowsOf, words}
-use Rattle.job.specs.Faults.{faultAt, afterCommand}
+use Rattle.job.specs.Faults.{Tests, testsAt, firstOf, afterCommand}
 
 pub record Placed : Type 0 where
   pub offset : ℕ
@@ -31,22 +31,26 @@ before p (accepted ps) = accepted (p ∷ ps)
 
 -- From an offset on, after `count` commands, with what holds there. No end is refusal 1 at the file's length, bytes after the
 -- end are refusal 3 at the first. The first number is how many commands may still be read: a 4,097th is refused, so 4,097 of
--- them and the end are enough from the start, and with none left the answer is that refusal.
-unfoldable pub placedFrom : ℕ → List ℕ → ℕ → ℕ → Context → Job
-unfolding faultAt
-placedFrom zero job at count h = refused 8 at
-placedFrom (suc n) job at count h =
-    let fault = faultAt job at count h in
-    let rest = placedFrom n job (afterCommand job at) (count + 1) (next h (commandAt job at)) in
+-- them and the end are enough from the start, and with none left the answer is that refusal. The tests are handed in, so that
+-- what two lists of tests accept can be compared.
+unfoldable pub placedBy : Tests → ℕ → List ℕ → ℕ → ℕ → Context → Job
+placedBy tests zero job at count h = refused 8 at
+placedBy tests (suc n) job at count h =
+    let fault = firstOf (tests job at count h) in
+    let rest = placedBy tests n job (afterCommand job at) (count + 1) (next h (commandAt job at)) in
     let goes = before (record { offset = at; command = commandAt job at; context = h }) rest in
     cond (leb (length job) at) (refused 1 (length job))
     (cond (ltb 0 fault) (refused fault at)
     (cond (eqb (byteAt job at) 0) (cond (ltb (at + 1) (length job)) (refused 3 (at + 1)) (accepted []))
     goes))
 
+-- of a whole job, by any tests
+abbrev pub placedWith : Tests → List ℕ → Job
+placedWith tests job = placedBy tests 4097 job 0 0 nothing
+
+-- by the tests of 01 and 02
 unfoldable pub placed : List ℕ → Job
-unfolding placedFrom
-placed job = placedFrom 4097 job 0 0 nothing
+placed job = placedWith testsAt job
 
 -- ---- the rows of placed commands
 

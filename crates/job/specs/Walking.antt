@@ -1,7 +1,7 @@
 -- The walk in the shape of the code. proofs/ joins it to the placed commands. `room` tells whether rows are to be written.
 use mathlib.Core.Path.{_≡_}
 use mathlib.Core.Bool.{Bool, not, cond}
-use mathlib.Core.List.{List, [], _∷_, map}
+use mathlib.Core.List.{List, [], _∷_, _++_, map}
 use Prim.Native.Nat.{ℕ, zero, suc, _+_, _≤_}
 use lib.Dec.{eqb, leb, ltb}
 use lib.IntN.{ℤ}
@@ -9,37 +9,37 @@ use lib.ListN.{length}
 use Rattle.layout.specs.Layouts.{known, operandsWidth}
 use Rattle.layout.specs.Operands.{byteAt}
 use Rattle.format.specs.Reading.{commandAt}
-use Rattle.context.specs.Running.{JointTable, startState, nextState, nextSums, nextJoints, absentIn, repeatedIn, SoundState, SoundSums}
+use Rattle.context.specs.Running.{JointTable, startState, nextState, nextSums, nextJoints, absentIn, SoundState, SoundSums}
 use Rattle.rows.specs.Rows.{words}
 use Rattle.rows.specs.Writing.{rowsFrom, storedAll}
 use Rattle.job.specs.declared.Place.{Place}
 use Rattle.job.specs.declared.Walked.{Walked}
 use Rattle.job.specs.declared.Walked.the-variants.{Refused, Finished, Paused}
 use Rattle.job.specs.declared.FaultAnswer.{FaultAnswer}
-use Rattle.job.specs.Faults.{unknown, afterCommand, cutShort, tooMany, misplaced, outOfRange, firstOf, operandNamed}
+use Rattle.job.specs.Faults.{afterCommand, tooMany, misplaced, outOfRange, firstOf, operandNamed}
 use Rattle.job.specs.Answers.{Answer, rowsAnswer, refusedAnswer}
 
 -- the tests that need a command's byte alone: by the job's length, the command's offset and byte, the commands before it, and
 -- whether settings are given
-unfoldable pub earlyFault : ℕ → ℕ → ℕ → ℕ → Bool → ℕ
-earlyFault bytes at byte count settingsGiven =
-    firstOf
-    ((not (known byte), 2)
+abbrev pub earlyTests : ℕ → ℕ → ℕ → ℕ → Bool → List (Bool × ℕ)
+earlyTests bytes at byte count settingsGiven =
+    (not (known byte), 2)
     ∷ (ltb bytes (at + 1 + operandsWidth byte), 1)
     ∷ (tooMany byte count, 8)
     ∷ (misplaced byte settingsGiven, 4)
-    ∷ [])
+    ∷ []
 
+unfoldable pub earlyFault : ℕ → ℕ → ℕ → ℕ → Bool → ℕ
+earlyFault bytes at byte count settingsGiven = firstOf (earlyTests bytes at byte count settingsGiven)
+
+-- these, and then the two that need the command
 unfoldable pub faultFrom : List ℕ → Place → JointTable → ℕ
 faultFrom job p joints =
+    let c = commandAt job (p .offset) in
     firstOf
-    ((unknown job (p .offset), 2)
-    ∷ (cutShort job (p .offset), 1)
-    ∷ (tooMany (byteAt job (p .offset)) (p .count), 8)
-    ∷ (misplaced (byteAt job (p .offset)) (p .state .given), 4)
-    ∷ (outOfRange (commandAt job (p .offset)), 5)
-    ∷ (absentIn (p .state) (joints .given) (commandAt job (p .offset)), 6)
-    ∷ (repeatedIn (joints .given) (commandAt job (p .offset)), 7)
+    (earlyTests (length job) (p .offset) (byteAt job (p .offset)) (p .count) (p .state .given)
+    ++ (outOfRange c, 5)
+    ∷ (absentIn (p .state) (joints .given) c, 6)
     ∷ [])
 
 pub record Final : Type 0 where

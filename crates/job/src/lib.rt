@@ -26,7 +26,7 @@ pub enum Walked {
     Paused(Place),
 }
 
-// A walk: how it ended, and whether it passed a storey. No promise rests on the latter: it only tells whether the table of cubes
+// A walk: how it ended, and whether it met a storey. No promise rests on the latter: it only tells whether the table of cubes
 // is worth making before the rows are written.
 pub struct WalkEnd {
     pub ended: Walked,
@@ -121,6 +121,7 @@ pub fn walk(
             break 'walk Walked::Refused(early, offset, 0);
         }
         let command = format::read(job, offset, byte);
+        storeys = storeys | (byte == 7);
         if !format::command_in_range(command) {
             let operand_count = layout::operand_count(byte);
             let mut place = 0;
@@ -139,9 +140,6 @@ pub fn walk(
         if context::absent(state, &*given, command) {
             break 'walk Walked::Refused(6, offset, 0);
         }
-        if context::repeated(&*given, command) {
-            break 'walk Walked::Refused(7, offset, 0);
-        }
         if byte == 0 {
             if offset + 1 < job.len() {
                 break 'walk Walked::Refused(3, offset + 1, 0);
@@ -151,7 +149,6 @@ pub fn walk(
         state = context::next(state, room, command);
         context::hold_joint(given, sums, room, command);
         written = rows::emit(rows, written, offset, state, &*sums, table, command);
-        storeys = storeys | (byte == 7);
         offset = offset + 1 + layout::operands_width(byte);
         count += 1;
         left -= 1;

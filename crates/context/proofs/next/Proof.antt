@@ -37,6 +37,9 @@ soil-given-requires c κs =
 with-ground-requires : tie.Need-with-ground-requires
 with-ground-requires c κs = search needs
 
+enum-told : tie.Need-enum-told
+enum-told c = search needs
+
 returns : tie.Need-returns
 unfolding nextState
 returns c = rw (c .before .before .command .given .1) (c .with-settings .ensures)
@@ -50,7 +53,11 @@ unfolding nextState
 returns-3 c = rw (c .before .before .before .before .command3 .given .1, c .with-ground .ensures, c .before .before .soil-given .ensures)
 
 returns-4 : tie.Need-returns-4
-returns-4 c = sym (state-kept (c .before .args .room) (c .before .args .state) (c .before .args .command) (c .match .keys4))
+unfolding nextState
+returns-4 c = rw (c .enum-told .given .1)
+
+returns-5 : tie.Need-returns-5
+returns-5 c = sym (state-kept (c .before .args .room) (c .before .args .state) (c .before .args .command) (c .match .keys5))
 
 pub next-spec : {M : Type 1} → statement M
 next-spec =
@@ -64,7 +71,9 @@ next-spec =
     enum-known-command-3
     soil-given-requires
     with-ground-requires
+    enum-told
     returns
     returns-2
     returns-3
-    returns-4)
+    returns-4
+    returns-5)

@@ -17,7 +17,7 @@ use Rattle.layout.proofs.Numbers.{Bytes}
 use Rattle.layout.proofs.OperandsRead.{width-is as form-width-is}
 use Rattle.format.specs.Commands.{inRange, operandAtFault}
 use Rattle.format.specs.Reading.{commandAt}
-use Rattle.context.specs.Running.{roomFor, JointTable, absentIn, repeatedIn, SoundState, SoundSums}
+use Rattle.context.specs.Running.{roomFor, JointTable, absentIn, SoundState, SoundSums}
 use Rattle.context.proofs.Laws.{next-sound, sums-sound}
 use Rattle.job.specs.declared.Place.{Place}
 use Rattle.job.specs.declared.Walked.the-variants.{Refused}
@@ -25,7 +25,7 @@ use Rattle.job.specs.Walking.{walkFrom, Final}
 use Rattle.job.proofs.Steps.{stop, early-none}
 use Rattle.job.proofs.Scan.{Scanning, begins, next-fits, place-fits, found, scans-on, scanned}
 use Rattle.job.proofs.Stands.{Stands}
-use Rattle.job.proofs.Ways.{Reached, pauses, ends-short, refused-early, out-of-range, absence, repetition, bytes-after, done, on}
+use Rattle.job.proofs.Ways.{Reached, pauses, ends-short, refused-early, out-of-range, absence, bytes-after, done, on}
 use Rattle.job.proofs.walk.Statement.{statement}
 use Rattle.job.proofs.walk.Tie as tie
 
@@ -163,22 +163,16 @@ module _ (c : tie.Else4 Inv-loop μ-loop Inv-walk μ-walk) where
 abbrev else4 : tie.Else6 Inv-loop μ-loop Inv-walk μ-walk → tie.Else4 Inv-loop μ-loop Inv-walk μ-walk
 else4 c = c .before .before .before
 
-abbrev else6 : tie.Else7 Inv-loop μ-loop Inv-walk μ-walk → tie.Else6 Inv-loop μ-loop Inv-walk μ-walk
-else6 c = c .before .before .before
+abbrev w6 : tie.Else6 Inv-loop μ-loop Inv-walk μ-walk → tie.At-walk Inv-loop μ-loop Inv-walk μ-walk
+w6 c = w4 (else4 c)
 
-abbrev w7 : tie.Else7 Inv-loop μ-loop Inv-walk μ-walk → tie.At-walk Inv-loop μ-loop Inv-walk μ-walk
-w7 c = w4 (else4 (else6 c))
-
-present : (c : tie.Else6 Inv-loop μ-loop Inv-walk μ-walk) → let w = w4 (else4 c) in absentIn (w .walk .state) (w .walk .given) (r4 (else4 c) .read .result) ≡ false
+present : (c : tie.Else6 Inv-loop μ-loop Inv-walk μ-walk) → let w = w6 c in absentIn (w .walk .state) (w .walk .given) (r4 (else4 c) .read .result) ≡ false
 present c = sym (c .before .absent .ensures) ∙ c .if6 .left
-
-new : (c : tie.Else7 Inv-loop μ-loop Inv-walk μ-walk) → repeatedIn (w7 c .walk .given) (r4 (else4 (else6 c)) .read .result) ≡ false
-new c = sym (c .before .repeated .ensures) ∙ c .if7 .left
 
 -- ---- after the command
 
-abbrev else8 : tie.After-next Inv-loop μ-loop Inv-walk μ-walk → tie.Else8 Inv-loop μ-loop Inv-walk μ-walk
-else8 c = c .before
+abbrev else7 : tie.After-next Inv-loop μ-loop Inv-walk μ-walk → tie.Else7 Inv-loop μ-loop Inv-walk μ-walk
+else7 c = c .before
 
 abbrev at-next : tie.After-hold-joint Inv-loop μ-loop Inv-walk μ-walk → tie.After-next Inv-loop μ-loop Inv-walk μ-walk
 at-next c = c .before .before .before
@@ -190,23 +184,23 @@ abbrev emitted : tie.After-operands-width Inv-loop μ-loop Inv-walk μ-walk → 
 emitted c = c .before .before
 
 module _ (c : tie.After-hold-joint Inv-loop μ-loop Inv-walk μ-walk) where
-  abbrev next8 : tie.After-next Inv-loop μ-loop Inv-walk μ-walk
-  next8 = at-next c
+  abbrev next7 : tie.After-next Inv-loop μ-loop Inv-walk μ-walk
+  next7 = at-next c
 
-  abbrev seven : tie.Else7 Inv-loop μ-loop Inv-walk μ-walk
-  seven = next8 .before .before
+  abbrev six : tie.Else6 Inv-loop μ-loop Inv-walk μ-walk
+  six = next7 .before .before
 
-  abbrev w8 : tie.At-walk Inv-loop μ-loop Inv-walk μ-walk
-  w8 = w7 seven
+  abbrev w7 : tie.At-walk Inv-loop μ-loop Inv-walk μ-walk
+  w7 = w6 six
 
-  abbrev r8 : tie.After-read Inv-loop μ-loop Inv-walk μ-walk
-  r8 = r4 (else4 (else6 seven))
+  abbrev r7 : tie.After-read Inv-loop μ-loop Inv-walk μ-walk
+  r7 = r4 (else4 six)
 
-  sound-state : SoundState (next8 .next .result)
-  sound-state = subst SoundState (sym (next8 .next .ensures)) (next-sound (room-at w8) (w8 .walk .state) (r8 .read .result) (w8 .walk .inv .state) (in-range-4 (else4 (else6 seven))))
+  sound-state : SoundState (next7 .next .result)
+  sound-state = subst SoundState (sym (next7 .next .ensures)) (next-sound (room-at w7) (w7 .walk .state) (r7 .read .result) (w7 .walk .inv .state) (in-range-4 (else4 six)))
 
-  sound-sums : SoundSums (room-at w8) (c .hold-joint .last .1 .0)
-  sound-sums = subst (SoundSums (room-at w8)) (sym (c .hold-joint .ensures .1)) (sums-sound (room-at w8) (w8 .walk .sums) (r8 .read .result) (w8 .walk .inv .sums) (in-range-4 (else4 (else6 seven))))
+  sound-sums : SoundSums (room-at w7) (c .hold-joint .last .1 .0)
+  sound-sums = subst (SoundSums (room-at w7)) (sym (c .hold-joint .ensures .1)) (sums-sound (room-at w7) (w7 .walk .sums) (r7 .read .result) (w7 .walk .inv .sums) (in-range-4 (else4 six)))
 
 walk-holds : tie.Need-walk-holds Inv-loop μ-loop Inv-walk μ-walk
 walk-holds c =
@@ -273,64 +267,61 @@ relation-names-requires c κs = tt
 absent-requires : tie.Need-absent-requires Inv-loop μ-loop Inv-walk μ-walk
 absent-requires c κs = w4 (c .before) .walk .inv .given
 
-repeated-requires : tie.Need-repeated-requires Inv-loop μ-loop Inv-walk μ-walk
-repeated-requires c κs = w4 (else4 (c .before)) .walk .inv .given
+add-if8 : tie.Need-add-if8 Inv-loop μ-loop Inv-walk μ-walk
+add-if8 c = let w = w6 (c .before) in omega (arith, reached (r4 (else4 (c .before)) .before) .inside, start-at w .good .0)
 
-add-if9 : tie.Need-add-if9 Inv-loop μ-loop Inv-walk μ-walk
-add-if9 c = let w = w7 (c .before) in omega (arith, reached (r4 (else4 (else6 (c .before))) .before) .inside, start-at w .good .0)
-
-add-t46 : tie.Need-add-t46 Inv-loop μ-loop Inv-walk μ-walk
-add-t46 c = omega (arith, c .if9 .taken, start-at (w7 (c .before .before)) .good .0)
+add-t43 : tie.Need-add-t43 Inv-loop μ-loop Inv-walk μ-walk
+add-t43 c = omega (arith, c .if8 .taken, start-at (w6 (c .before .before)) .good .0)
 
 next-requires : tie.Need-next-requires Inv-loop μ-loop Inv-walk μ-walk
-next-requires c κs = let s = c .before in record { state = w7 s .walk .inv .state; in-range = in-range-4 (else4 (else6 s)) }
+next-requires c κs = let s = c .before in record { state = w6 s .walk .inv .state; in-range = in-range-4 (else4 s) }
 
 hold-joint-requires : tie.Need-hold-joint-requires Inv-loop μ-loop Inv-walk μ-walk
-hold-joint-requires c κs = let w = w7 (else8 (c .before .before) .before) in (w .walk .inv .given, w .walk .inv .sums)
+hold-joint-requires c κs = let w = w6 (else7 (c .before .before) .before) in (w .walk .inv .given, w .walk .inv .sums)
 
 emit-requires : tie.Need-emit-requires Inv-loop μ-loop Inv-walk μ-walk
 emit-requires c κs =
     let h = c .before .before .before .before .before .before in
-    let w = w8 h in (
+    let w = w7 h in (
       start-at w .pre .0,
       (
         record {
           state = sound-state h;
           joints = subst (λ (room : Bool). SoundSums room (h .hold-joint .last .1 .0)) (sym (room-kept w)) (sound-sums h);
-          in-range = in-range-4 (else4 (else6 (seven h)));
+          in-range = in-range-4 (else4 (six h));
         },
-        (omega (arith, w .walk .inv .written, w .walk .inv .count), omega (arith, reached (r8 h .before) .inside, start-at w .good .0)),
+        (omega (arith, w .walk .inv .written, w .walk .inv .count), omega (arith, reached (r7 h .before) .inside, start-at w .good .0)),
       ),
     )
 
 add-offset : tie.Need-add-offset Inv-loop μ-loop Inv-walk μ-walk
-add-offset c = let h = at-emit (c .before) in omega (arith, reached (r8 h .before) .inside, start-at (w8 h) .good .0)
+add-offset c = let h = at-emit (c .before) in omega (arith, reached (r7 h .before) .inside, start-at (w7 h) .good .0)
 
 operands-width-requires : tie.Need-operands-width-requires Inv-loop μ-loop Inv-walk μ-walk
 operands-width-requires c κs = tt
 
 add-offset-2 : tie.Need-add-offset-2 Inv-loop μ-loop Inv-walk μ-walk
-add-offset-2 c = let h = at-emit (emitted c) in omega (arith, c .operands-width .ensures, reached (r8 h .before) .early .whole, start-at (w8 h) .good .0)
+add-offset-2 c = let h = at-emit (emitted c) in omega (arith, c .operands-width .ensures, reached (r7 h .before) .early .whole, start-at (w7 h) .good .0)
 
 add-count : tie.Need-add-count Inv-loop μ-loop Inv-walk μ-walk
-add-count c = omega (arith, w8 (at-emit (emitted c)) .walk .inv .count)
+add-count c = omega (arith, w7 (at-emit (emitted c)) .walk .inv .count)
 
 sub-left : tie.Need-sub-left Inv-loop μ-loop Inv-walk μ-walk
-sub-left c = reached (r8 (at-emit (emitted c)) .before) .some-left
+sub-left c = reached (r7 (at-emit (emitted c)) .before) .some-left
 
 walk-less : tie.Need-walk-less Inv-loop μ-loop Inv-walk μ-walk
-walk-less c = omega (arith, reached (r8 (at-emit (emitted c)) .before) .some-left)
+walk-less c = omega (arith, reached (r7 (at-emit (emitted c)) .before) .some-left)
 
 walk-again : tie.Need-walk-again Inv-loop μ-loop Inv-walk μ-walk
 walk-again c =
     let e = emitted c in
     let h = at-emit e in
-    let n = next8 h in
-    let s = seven h in
-    let w = w8 h in
-    let r = r8 h in
+    let n = next7 h in
+    let s = six h in
+    let w = w7 h in
+    let r = r7 h in
     on (room-at w) (whole w) (job-at w) (lent-at w) (start-at w .args .rows .now) (joints-at w) (w .walk .rows) (place-at w) (w .walk .left) (w .walk .inv) (reached (r .before))
-    (r .read .result) (r .read .ensures) (in-range-4 (else4 (else6 s))) (present (else6 s)) (new s) (n .before .if8 .left)
+    (r .read .result) (r .read .ensures) (in-range-4 (else4 s)) (present s) (n .before .if7 .left)
     (h .hold-joint .last .0) (h .hold-joint .last .1 .0) (e .emit .last .0) (w .walk .offset + 1 + c .operands-width .result) (e .emit .result) (n .next .result)
     (h .hold-joint .ensures .0) (h .hold-joint .ensures .1) (n .next .ensures) (e .emit .ensures .1) (e .emit .ensures .0) (ap (λ (k : ℕ). w .walk .offset + 1 + k) (c .operands-width .ensures))
 
@@ -429,55 +420,38 @@ returns-6 c =
     (r4 e .read .result) (r4 e .read .ensures) (in-range-4 e) (sym (c .before .absent .ensures) ∙ c .if6 .taken)
 
 same-length-19 : tie.Need-same-length-19 Inv-loop μ-loop Inv-walk μ-walk
-same-length-19 c = (w4 (else4 (c .before .before .before))) .walk .inv .given-kept
+same-length-19 c = (w6 (c .before .before)) .walk .inv .given-kept
 
 same-length-20 : tie.Need-same-length-20 Inv-loop μ-loop Inv-walk μ-walk
-same-length-20 c = (w4 (else4 (c .before .before .before))) .walk .inv .sums-kept
+same-length-20 c = (w6 (c .before .before)) .walk .inv .sums-kept
 
 same-length-21 : tie.Need-same-length-21 Inv-loop μ-loop Inv-walk μ-walk
-same-length-21 c = (w4 (else4 (c .before .before .before))) .walk .inv .rows-kept
+same-length-21 c = (w6 (c .before .before)) .walk .inv .rows-kept
 
 returns-7 : tie.Need-returns-7 Inv-loop μ-loop Inv-walk μ-walk
 returns-7 c =
-    let s = c .before .before .before in
+    let s = c .before .before in
     let e = else4 s in
     let w = w4 e in
-    repetition (room-at w) (whole w) (job-at w) (lent-at w) (start-at w .args .rows .now) (joints-at w) (w .walk .rows) (place-at w) (w .walk .left) (w .walk .inv) (reached (r4 e .before))
-    (r4 e .read .result) (r4 e .read .ensures) (in-range-4 e) (present s) (sym (c .before .repeated .ensures) ∙ c .if7 .taken)
+    bytes-after (room-at w) (whole w) (job-at w) (lent-at w) (start-at w .args .rows .now) (joints-at w) (w .walk .rows) (place-at w) (w .walk .left) (w .walk .inv) (reached (r4 e .before))
+    (r4 e .read .result) (r4 e .read .ensures) (in-range-4 e) (present s) (c .before .if7 .taken) (c .if8 .taken)
 
 same-length-22 : tie.Need-same-length-22 Inv-loop μ-loop Inv-walk μ-walk
-same-length-22 c = (w7 (c .before .before)) .walk .inv .given-kept
+same-length-22 c = (w6 (c .before .before)) .walk .inv .given-kept
 
 same-length-23 : tie.Need-same-length-23 Inv-loop μ-loop Inv-walk μ-walk
-same-length-23 c = (w7 (c .before .before)) .walk .inv .sums-kept
+same-length-23 c = (w6 (c .before .before)) .walk .inv .sums-kept
 
 same-length-24 : tie.Need-same-length-24 Inv-loop μ-loop Inv-walk μ-walk
-same-length-24 c = (w7 (c .before .before)) .walk .inv .rows-kept
+same-length-24 c = (w6 (c .before .before)) .walk .inv .rows-kept
 
 returns-8 : tie.Need-returns-8 Inv-loop μ-loop Inv-walk μ-walk
 returns-8 c =
     let s = c .before .before in
-    let e = else4 (else6 s) in
-    let w = w4 e in
-    bytes-after (room-at w) (whole w) (job-at w) (lent-at w) (start-at w .args .rows .now) (joints-at w) (w .walk .rows) (place-at w) (w .walk .left) (w .walk .inv) (reached (r4 e .before))
-    (r4 e .read .result) (r4 e .read .ensures) (in-range-4 e) (present (else6 s)) (new s) (c .before .if8 .taken) (c .if9 .taken)
-
-same-length-25 : tie.Need-same-length-25 Inv-loop μ-loop Inv-walk μ-walk
-same-length-25 c = (w7 (c .before .before)) .walk .inv .given-kept
-
-same-length-26 : tie.Need-same-length-26 Inv-loop μ-loop Inv-walk μ-walk
-same-length-26 c = (w7 (c .before .before)) .walk .inv .sums-kept
-
-same-length-27 : tie.Need-same-length-27 Inv-loop μ-loop Inv-walk μ-walk
-same-length-27 c = (w7 (c .before .before)) .walk .inv .rows-kept
-
-returns-9 : tie.Need-returns-9 Inv-loop μ-loop Inv-walk μ-walk
-returns-9 c =
-    let s = c .before .before in
-    let e = else4 (else6 s) in
+    let e = else4 s in
     let w = w4 e in
     done (room-at w) (whole w) (job-at w) (lent-at w) (start-at w .args .rows .now) (joints-at w) (w .walk .rows) (place-at w) (w .walk .left) (w .walk .inv) (reached (r4 e .before))
-    (r4 e .read .result) (r4 e .read .ensures) (in-range-4 e) (present (else6 s)) (new s) (c .before .if8 .taken) (c .if9 .left)
+    (r4 e .read .result) (r4 e .read .ensures) (in-range-4 e) (present s) (c .before .if7 .taken) (c .if8 .left)
 
 pub walk-spec : {M : Type 1} → statement M
 walk-spec =
@@ -506,9 +480,8 @@ walk-spec =
     loop-again
     relation-names-requires
     absent-requires
-    repeated-requires
-    add-if9
-    add-t46
+    add-if8
+    add-t43
     next-requires
     hold-joint-requires
     emit-requires
@@ -550,8 +523,4 @@ walk-spec =
     same-length-22
     same-length-23
     same-length-24
-    returns-8
-    same-length-25
-    same-length-26
-    same-length-27
-    returns-9)
+    returns-8)
