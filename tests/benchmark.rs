@@ -1,5 +1,6 @@
-//! Times the proved library against the reference, both built for release, on the same jobs in one process with warm buffers.
-//! Arguments: rounds, of which the best counts; one call, where not all are wanted (run, size, fault, total, take-down). Prints
+//! Times the proved library against the reference, both built for release, on the same jobs in one process with warm buffers; in
+//! writing commands against plain Rust (tests/plain.rs), on the same values, each command behind the last.
+//! Arguments: rounds, of which the best counts; one call, where not all are wanted (run, size, fault, total, take-down, write). Prints
 //! tables in markdown: ns a command (a row, a value) of both, and the ratio.
 //! Assumes nothing. After `rt staticlib capacity_c`, built at the root of the repository by
 //! rustc --edition 2021 -O -L target/staticlib -o target/tests/benchmark tests/benchmark.rs.
@@ -8,9 +9,13 @@
 
 mod generate;
 mod library;
+mod plain;
 mod reference;
 
 use generate::{Mix, Random};
+use library::write as commands;
+use library::write::WriteAnswer;
+use plain::Plain;
 use std::hint::black_box;
 use std::time::Instant;
 
@@ -35,6 +40,24 @@ const CALLS: [(&str, &str, Both); 4] = [
     ("total", "row", total),
 ];
 
+/// The commands written one after the other.
+const WRITTEN: usize = 1000;
+
+/// The commands by their bytes, each with the race of its two writers.
+const WRITES: [(&str, u8, fn(usize, u8) -> [f64; 2]); 11] = [
+    ("settings", 1, write::<commands::Settings>),
+    ("joint", 2, write::<commands::Joint>),
+    ("column", 3, write::<commands::Column>),
+    ("beam", 4, write::<commands::Beam>),
+    ("no hinges", 5, write::<commands::Hingeless>),
+    ("wall base", 6, write::<commands::WallBase>),
+    ("storey", 7, write::<commands::Storey>),
+    ("soil", 8, write::<commands::Soil>),
+    ("footing", 9, write::<commands::Footing>),
+    ("detail", 10, write::<commands::Detail>),
+    ("end", 0, write::<commands::End>),
+];
+
 fn main() {
     let mut arguments = std::env::args().skip(1);
     let rounds = arguments
@@ -42,8 +65,9 @@ fn main() {
         .map_or(40, |text| text.parse().expect("a number"));
     let picked = arguments.next();
     let wanted = |call: &str| picked.as_deref().is_none_or(|name| name == call);
-    if !wanted("take-down") && !CALLS.iter().any(|(call, ..)| wanted(call)) {
-        eprintln!("the calls are run, size, fault, total, take-down");
+    let calls = CALLS.iter().map(|(call, ..)| *call);
+    if !calls.chain(["take-down", "write"]).any(wanted) {
+        eprintln!("the calls are run, size, fault, total, take-down, write");
         std::process::exit(2);
     }
     for (call, unit, both) in CALLS.into_iter().filter(|(call, ..)| wanted(call)) {
@@ -59,6 +83,12 @@ fn main() {
         println!("\n| take-down, ns a value | values | library | reference | ratio |\n|---|---:|---:|---:|---:|");
         for (kind, name) in ["tangent", "strength"].into_iter().enumerate() {
             print(name, "4096", take_down(rounds, kind as u8));
+        }
+    }
+    if wanted("write") {
+        println!("\n| write, ns a command | commands | library | plain Rust | ratio |\n|---|---:|---:|---:|---:|");
+        for (kind, code, both) in WRITES {
+            print(kind, &WRITTEN.to_string(), both(rounds, code));
         }
     }
 }
@@ -179,6 +209,39 @@ fn take_down(rounds: usize, kind: u8) -> [f64; 2] {
                 .for_each(|&value| keep(reference::take_down(kind, black_box(value))))
         },
     )
+}
+
+/// Of commands in range with random values, into a buffer of its own for each of the two.
+fn write<C: Plain>(rounds: usize, code: u8) -> [f64; 2] {
+    let mut random = Random::new(1);
+    let values: Vec<C> = std::iter::repeat_with(|| generate::command(&mut random, code))
+        .filter(|command| command.at_fault().is_none())
+        .take(WRITTEN)
+        .map(|command| C::of(&command.values))
+        .collect();
+    let mut bytes = vec![0; 58 * WRITTEN];
+    let mut other = bytes.clone();
+    let ns = race(
+        rounds,
+        WRITTEN,
+        || one_after_the_other(&values, &mut bytes, C::write),
+        || one_after_the_other(&values, &mut other, C::write_plainly),
+    );
+    assert_eq!(bytes, other, "the bytes of the two writers");
+    ns
+}
+
+#[inline(always)]
+fn one_after_the_other<C: Copy>(
+    values: &[C],
+    bytes: &mut [u8],
+    write: impl Fn(C, &mut [u8]) -> WriteAnswer,
+) {
+    let mut at = 0;
+    for value in black_box(values) {
+        at += write(*value, &mut bytes[at..]).bytes;
+    }
+    keep(at);
 }
 
 /// Lets no result be left out.

@@ -1,7 +1,7 @@
 //! Compares the proved library with the reference on random jobs: size, fault, run, total and take-down, with guard words around
-//! the rows. Arguments: jobs, seed. Prints `N jobs agree`, or the first disagreement with its job in hexadecimal. A run of
-//! 100,000 jobs or more fails too when an operand was never at fault, or when fewer than a tenth of the jobs are accepted ones with
-//! a joint revised between members.
+//! the rows; and writes each command of each accepted job again. Arguments: jobs, seed. Prints `N jobs agree`, or the first
+//! disagreement with its job in hexadecimal. A run of 100,000 jobs or more fails too when an operand was never at fault, or when fewer
+//! than a tenth of the jobs are accepted ones with a joint revised between members.
 //! Assumes nothing. Built by tests/run.
 
 mod generate;
@@ -60,6 +60,8 @@ struct Tally {
     rows: u64,
     /// Accepted jobs with a joint revised between members, each counted once.
     revised: u64,
+    /// Commands of accepted jobs that were written again.
+    written: u64,
     /// By number, from 1 to 9.
     refused: [u64; 10],
     /// Jobs by the command and the operand at fault.
@@ -93,8 +95,8 @@ impl std::fmt::Display for Tally {
     fn fmt(&self, out: &mut std::fmt::Formatter) -> std::fmt::Result {
         write!(
             out,
-            "{} accepted with {} rows; a joint revised in {} jobs; refused",
-            self.accepted, self.rows, self.revised
+            "{} accepted with {} rows; a joint revised in {} jobs; {} commands written again; refused",
+            self.accepted, self.rows, self.revised, self.written
         )?;
         (1..10).try_for_each(|number| write!(out, " {number}: {}", self.refused[number]))
     }
@@ -170,6 +172,9 @@ fn compare(random: &mut Random, job: &[u8], tally: &mut Tally) -> Result<(), Str
     same("fault", &library::fault(job), &fault)?;
     tally.fault(&fault);
     tally.revised += u64::from(size.is_ok() && generate::revised_between_members(job));
+    if size.is_ok() {
+        tally.written += written_again(job)?;
+    }
     let needed = size.unwrap_or(random.below(12) as usize);
     let long = ROW * needed + random.below(20) as usize;
     let short = random.below((ROW * needed).max(1) as u64) as usize;
@@ -189,6 +194,20 @@ fn same<T: PartialEq + std::fmt::Debug>(call: &str, found: &T, expected: &T) -> 
     } else {
         Err(format!("{call} {found:x?}, reference {expected:x?}"))
     }
+}
+
+/// Reads each command of an accepted job, the end too, and writes it into as many bytes as it has there: they must be the job's. Tells
+/// how many commands there were.
+fn written_again(job: &[u8]) -> Result<u64, String> {
+    let commands = reference::commands(job);
+    let ends = commands.iter().skip(1).map(|(at, _)| *at);
+    for ((at, command), end) in commands.iter().zip(ends.chain([job.len()])) {
+        let mut bytes = vec![0xA5; end - at];
+        let answer = library::write::write_command(command, &mut bytes);
+        same("number of the write", &answer.number, &0)?;
+        same("bytes written again", &bytes, &job[*at..end].to_vec())?;
+    }
+    Ok(commands.len() as u64)
 }
 
 /// Runs a job on so many words that hold random values, with guards before and after them, in both implementations: every

@@ -1,13 +1,15 @@
 //! Pseudo-random jobs of documents 01 and 02: valid ones, with joints given again too, ones with strengths at the demand, ones with
-//! operands out of range, damaged ones, noise.
+//! operands out of range, damaged ones, noise; and single commands by their values.
 //! Assumes nothing; the same seed gives the same jobs.
 
-#![allow(dead_code)]
+#![allow(dead_code, unused_imports)]
 
+mod commands;
 mod faults;
 mod values;
 
 use crate::reference::{run, size, ROW};
+pub use commands::command;
 use values::Values;
 pub use values::{Random, LIMIT};
 

@@ -1,6 +1,8 @@
 //! The proved library's calls, declared as in crates/capacity_c/include/eak_capacity.h, with the reference's answers.
 //! Assumes that libcapacity_c.a is linked.
 
+pub mod write;
+
 use crate::reference::{Fault, Refusal, Totals};
 
 #[repr(C)]

@@ -1,5 +1,5 @@
-//! Document 01 with request No. 1 of document 02 in plain Rust: size, run, total and take-down, written from the papers; and the
-//! operand at fault.
+//! Document 01 with requests No. 1 and 2 of document 02 in plain Rust: size, run, total, take-down and writing a command, written
+//! from the papers; and the operand at fault.
 //! Assumes nothing of the job's bytes, the rows or the number of rows.
 
 mod footing;
@@ -7,10 +7,13 @@ mod members;
 mod operands;
 #[cfg(test)]
 mod tests;
+mod writing;
 
 use footing::{Footing, Soil, SoilGiven};
 use members::{Beam, Column, Detail, Joint, NoHinges, Settings, Storey, Wall, WallBase};
 use operands::Operands;
+#[allow(unused_imports)]
+pub use writing::{commands, layout, read_command, write_command, Command, Written};
 
 /// Words of a row.
 pub const ROW: usize = 8;

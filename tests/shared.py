@@ -3,11 +3,15 @@
 Runs every job by eak_size, eak_run and eak_total, writes the listing that they give and compares it with the file NAME.out beside
 NAME.job. Compares eak_fault with eak_size on each, and on those in docs/FORMAT.md, "Refusal 5 by operand", with the operand named
 there. Tries that words after the rows, and in a refusal every word, stay as they were; the version against the header's; calls
-with no elements; two soil values; and the job with the most rows. Prints what differs; the exit status is 0 only if nothing does. Standard library alone.
+with no elements; two soil values; and the job with the most rows.
+Writes each command of each accepted job again by the eak_write calls and compares the bytes; the structs are read from the header, and
+docs/FORMAT.md must name the same members. Prints what differs; the exit status is 0 only if nothing does. Standard library alone.
 """
 import ctypes
 import re
+import runpy
 import sys
+from struct import unpack_from
 
 WORDS, LENT, AS_LENT = 8, 8192, 0x5A5A5A5A5A5A5A5A
 
@@ -19,18 +23,20 @@ FOOTING = bytes.fromhex("09 000001F4 000001F4") + bytes(49)
 
 def struct(*fields):
     """A struct of the header: its fields in their order, each 'type name'."""
-    types = {"bool": ctypes.c_bool, "u32": ctypes.c_uint32, "u64": ctypes.c_uint64, "size": ctypes.c_size_t}
+    types = {"bool": ctypes.c_bool, "u32": ctypes.c_uint32, "u64": ctypes.c_uint64, "size": ctypes.c_size_t, "i32": ctypes.c_int32,
+             "f32": ctypes.c_float}
     pairs = [field.split() for field in fields]
-    return type("Answer", (ctypes.Structure,), {"_fields_": [(name, types[kind]) for kind, name in pairs]})
+    return type("Struct", (ctypes.Structure,), {"_fields_": [(name, types[kind]) for kind, name in pairs]})
 
 
 JOB_ANSWER = struct("bool accepted", "u32 number", "size offset", "size rows")
 FAULT_ANSWER = struct("u32 number", "size offset", "u32 command", "u32 operand")
 TOTALS_ANSWER = struct("u32 number", "size offset", "size rows", "u64 failed", "u64 checks")
 SOIL_ANSWER = struct("u32 number", "u32 offset", "u32 value")
-BYTES, ROWS, SIZE = ctypes.c_char_p, ctypes.POINTER(ctypes.c_int64), ctypes.c_size_t
+WRITE_ANSWER = struct("u32 number", "size offset", "size bytes")
+BYTES, ROWS, SIZE, LENT_BYTES = ctypes.c_char_p, ctypes.POINTER(ctypes.c_int64), ctypes.c_size_t, ctypes.c_void_p
 
-# Each call of the header: its answer and its parameters.
+# Each call of the header: its answer and its parameters. Those that write a command are made from the header's structs.
 CALLS = {
     "eak_version": (ctypes.c_uint32, []),
     "eak_size": (JOB_ANSWER, [BYTES, SIZE]),
@@ -38,12 +44,22 @@ CALLS = {
     "eak_run": (JOB_ANSWER, [BYTES, SIZE, ROWS, SIZE]),
     "eak_total": (TOTALS_ANSWER, [ROWS, SIZE, SIZE]),
     "eak_take_down": (SOIL_ANSWER, [ctypes.c_uint8, ctypes.c_float]),
+    "eak_write_end": (WRITE_ANSWER, [LENT_BYTES, SIZE]),
 }
 
 
-def load(path):
+def commands_of(header):
+    """The structs of the header with the values of a command, by their names, in the order of the commands' bytes from 01 on."""
+    types = {"uint32_t": "u32", "int32_t": "i32", "float": "f32"}
+    bodies = re.findall(r"^struct eak_(\w+) \{\n(.*?)^\};", header, re.M | re.S)
+    return {name: struct(*[f"{types[kind]} {member}" for kind, member in re.findall(r"^    (\w+) (\w+);", body, re.M)])
+            for name, body in bodies if not name.endswith("_answer")}
+
+
+def load(path, commands):
     library = ctypes.CDLL(path)
-    for name, (answer, parameters) in CALLS.items():
+    writes = {"eak_write_" + name: (WRITE_ANSWER, [command, LENT_BYTES, SIZE]) for name, command in commands.items()}
+    for name, (answer, parameters) in (CALLS | writes).items():
         call = getattr(library, name)
         call.restype, call.argtypes = answer, parameters
     return library
@@ -82,22 +98,31 @@ def named():
         return {job: int(operand) for job, operand in re.findall(r"`(examples/refused/\S+\.job)` \| (\d+), ", file.read())}
 
 
-def main(path, header, jobs):
-    library, faults, operands = load(path), [], named()
+def described():
+    """The members of each command's struct, as the document's table of the calls names them."""
+    with open("docs/FORMAT.md", encoding="utf-8") as file:
+        rows = re.findall(r"^\| 0[1-9A] [a-z ]+ \| `eak_write_(\w+)` \| (.+) \|$", file.read(), re.M)
+    return {name: re.findall(r"`(\w+)`", members) for name, members in rows}
 
-    def same(what, expected, found):
-        if expected != found:
-            faults.append(f"{what}: expected {expected!r}, found {found!r}")
 
-    with open(header, encoding="utf-8") as file:
-        defined = {name: int(value) for name, value in re.findall(r"^#define (EAK_\w+) (\d+)$", file.read(), re.M)}
-    same("the version", defined["EAK_VERSION"], library.eak_version())
-    same("the words of a row", defined["EAK_ROW_WORDS"], WORDS)
-    start, footing = SETTINGS + SOIL, FOOTING * 4094
-    most = start + footing + b"\0"
-    same("the most rows", (True, 0, 0, defined["EAK_MOST_ROWS"]), values(library.eak_size(most, len(most))))
-    more = start + footing + FOOTING + b"\0"
-    same("a footing more", (False, 8, len(start + footing), 0), values(library.eak_size(more, len(more))))
+def written(library, commands, job):
+    """The bytes of an accepted job, each command written again by its call where the last one ended; and a byte more, as lent."""
+    layouts = dict(runpy.run_path("examples/make.py")["COMMANDS"].values())
+    names = dict(enumerate(commands, 1))
+    lent = (ctypes.c_uint8 * (len(job) + 1))(*[0x5A] * (len(job) + 1))
+    at = 0
+    while job[at]:
+        name, kinds = names[job[at]], re.findall(r":(\w)", layouts[job[at]])
+        operands = unpack_from(">" + "".join(kinds), job, at + 1)
+        answer = getattr(library, "eak_write_" + name)(commands[name](*operands), ctypes.byref(lent, at), len(job) - at)
+        assert answer.bytes, f"{name} at {at} is refused with {answer.number}"
+        at += answer.bytes
+    library.eak_write_end(ctypes.byref(lent, at), len(job) - at)
+    return bytes(lent)
+
+
+def no_elements(library, same):
+    """Calls that are lent no bytes and no words."""
     one = (ctypes.c_int64 * 1)(AS_LENT)
     same("eak_size of no bytes", (False, 1, 0, 0), values(library.eak_size(b"", 0)))
     same("eak_fault of no bytes", (1, 0, 0, 0), values(library.eak_fault(b"", 0)))
@@ -105,8 +130,44 @@ def main(path, header, jobs):
     same("eak_total of no rows", (0, 0, 0, 0, 0), values(library.eak_total(one, 0, 0)))
     same("eak_total of a row in no words", (9, 0, 1, 0, 0), values(library.eak_total(one, 0, 1)))
     same("the word after no words", AS_LENT, one[0])
+
+
+def refused_writes(library, commands, most, same):
+    """Values out of range, too few bytes, and the command with the most bytes."""
+    lent = (ctypes.c_uint8 * most)(*[0x5A] * most)
+    settings, joint, footing = commands["settings"], commands["joint"], commands["footing"]
+    same("an id of 300", (5, 0, 0), values(library.eak_write_joint(joint(300, 0, 0, 0), lent, most)))
+    same("q 70,000 in no bytes", (5, 0, 0), values(library.eak_write_settings(settings(70000, 140, 120), lent, 0)))
+    same("settings in six bytes", (11, 0, 0), values(library.eak_write_settings(settings(350, 140, 120), lent, 6)))
+    same("the end in no bytes", (11, 0, 0), values(library.eak_write_end(lent, 0)))
+    same("the bytes of refused commands", {0x5A}, set(lent))
+    same("the most bytes", (0, 0, most), values(library.eak_write_footing(footing(500, 500), lent, most)))
+    same("a footing", FOOTING, bytes(lent))
+
+
+def main(path, header, jobs):
+    with open(header, encoding="utf-8") as file:
+        header = file.read()
+    defined = {name: int(value) for name, value in re.findall(r"^#define (EAK_\w+) (\d+)$", header, re.M)}
+    commands = commands_of(header)
+    library, faults, operands = load(path, commands), [], named()
+
+    def same(what, expected, found):
+        if expected != found:
+            faults.append(f"{what}: expected {expected!r}, found {found!r}")
+
+    same("the version", defined["EAK_VERSION"], library.eak_version())
+    same("the words of a row", defined["EAK_ROW_WORDS"], WORDS)
+    start, footing = SETTINGS + SOIL, FOOTING * 4094
+    most = start + footing + b"\0"
+    same("the most rows", (True, 0, 0, defined["EAK_MOST_ROWS"]), values(library.eak_size(most, len(most))))
+    more = start + footing + FOOTING + b"\0"
+    same("a footing more", (False, 8, len(start + footing), 0), values(library.eak_size(more, len(more))))
+    no_elements(library, same)
     same("tangent 0.7", (0, 0, 6999), values(library.eak_take_down(0, 0.7)))
     same("tangent 2.5", (5, 0, 0), values(library.eak_take_down(0, 2.5)))
+    same("the members", {name: [member for member, _ in command._fields_] for name, command in commands.items()}, described())
+    refused_writes(library, commands, defined["EAK_COMMAND_BYTES"], same)
     for name in jobs:
         with open(name, "rb") as file, open(name.removesuffix(".job") + ".out", encoding="utf-8") as out:
             job = file.read()
@@ -115,6 +176,8 @@ def main(path, header, jobs):
             fault = faulty(library, job)
             same(f"{name}: operand at fault", operands.pop(name, 0), fault.operand)
             same(f"{name}: words as lent", {AS_LENT}, set(later))
+            if fault.number == 0:
+                same(f"{name}: written again", job + b"\x5A", written(library, commands, job))
     same("the operands of jobs that were not run", {}, operands)
     print("\n".join(faults) or f"{len(jobs)} jobs agree")
     return 1 if faults or not jobs else 0

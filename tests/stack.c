@@ -12,6 +12,7 @@ enum { STACK = 1 << 20, PAINT = 0xA5, MARGIN = 128 };
 static _Alignas(4096) uint8_t stack[STACK];
 static uint8_t job[1 << 20];
 static int64_t rows[8192 * EAK_ROW_WORDS];
+static uint8_t written[EAK_COMMAND_BYTES];
 static size_t bytes, kept;
 
 static void size(void) { kept += eak_size(job, bytes).rows; }
@@ -20,11 +21,47 @@ static void run(void) { kept += eak_run(job, bytes, rows, sizeof rows / sizeof r
 static void total(void) { kept += eak_total(rows, sizeof rows / sizeof rows[0], 1024).rows; }
 static void take_down(void) { kept += eak_take_down(0, 0.7f).value; }
 static void version(void) { kept += eak_version(); }
+static void write_end(void) { kept += eak_write_end(written, sizeof written).bytes; }
+
+/* The call that writes a command, with values in range. */
+#define WRITES(command, ...)                                                  \
+    static void write_##command(void) {                                       \
+        struct eak_##command values = {__VA_ARGS__};                          \
+        kept += eak_write_##command(values, written, sizeof written).bytes;   \
+    }
+WRITES(settings, 350, 140, 120)
+WRITES(joint, 255, 1, 2, 3)
+WRITES(column, 3000, 1, 2, 3, 4, 5, 6)
+WRITES(beam, 6000, 1, 2, 3, 4, -5, 6, 7)
+WRITES(hingeless, 3000, 255, 0, 1, 2, -3, 4)
+WRITES(wall_base, 4000, 250, 1, 2, 3, 4)
+WRITES(storey, 1, 2, 3, 4, 5, 6)
+WRITES(soil, 1, 80.0f, 1)
+WRITES(footing, 2000, 3000, 1, 2, -3, 4, -5, 6, -7, 8, -9, 10, 11, 12, 3)
+WRITES(detail, 2, 131, 250, 1000, 1)
 
 static const struct {
     const char *name;
     void (*call)(void);
-} calls[] = {{"eak_size", size}, {"eak_fault", fault}, {"eak_run", run}, {"eak_total", total}, {"eak_take_down", take_down}, {"eak_version", version}};
+} calls[] = {
+    {"eak_size", size},
+    {"eak_fault", fault},
+    {"eak_run", run},
+    {"eak_total", total},
+    {"eak_take_down", take_down},
+    {"eak_version", version},
+    {"eak_write_settings", write_settings},
+    {"eak_write_joint", write_joint},
+    {"eak_write_column", write_column},
+    {"eak_write_beam", write_beam},
+    {"eak_write_hingeless", write_hingeless},
+    {"eak_write_wall_base", write_wall_base},
+    {"eak_write_storey", write_storey},
+    {"eak_write_soil", write_soil},
+    {"eak_write_footing", write_footing},
+    {"eak_write_detail", write_detail},
+    {"eak_write_end", write_end},
+};
 enum { CALLS = sizeof calls / sizeof calls[0] };
 static size_t most[CALLS];
 

@@ -6,7 +6,7 @@ use super::values::{Random, LIMIT};
 /// An operand of so many bytes with the least and the greatest number in range. An id has no other numbers, a soil value depends
 /// on its kind.
 #[derive(Clone, Copy)]
-enum Operand {
+pub enum Operand {
     Id,
     SoilValue,
     Unsigned(usize, u64, u64),
@@ -25,7 +25,7 @@ const DEPTH: Operand = Unsigned(2, 0, 1000);
 const YES_NO: Operand = Unsigned(1, 0, 1);
 
 /// The operands of a command in the order of the file.
-fn operands(code: u8) -> Vec<Operand> {
+pub fn operands(code: u8) -> Vec<Operand> {
     match code {
         1 => vec![Unsigned(2, 100, 400), OVERSTRENGTH, OVERSTRENGTH],
         2 => [vec![Id], vec![AMOUNT; 3]].concat(),
@@ -53,7 +53,7 @@ fn operands(code: u8) -> Vec<Operand> {
 }
 
 impl Operand {
-    fn width(self) -> usize {
+    pub fn width(self) -> usize {
         match self {
             Id => 1,
             Unsigned(width, ..) => width,
@@ -66,7 +66,7 @@ impl Operand {
     }
 
     /// A number out of range, often just out of it or at the end of the width.
-    fn out_of_range(self, random: &mut Random) -> u32 {
+    pub fn out_of_range(self, random: &mut Random) -> u32 {
         match self {
             Id | SoilValue => unreachable!("an operand without a range of its own"),
             Unsigned(width, least, most) => {
@@ -92,7 +92,7 @@ impl Operand {
 }
 
 /// The first, the last or another number of a range.
-fn one_of(random: &mut Random, first: u64, last: u64) -> u64 {
+pub fn one_of(random: &mut Random, first: u64, last: u64) -> u64 {
     match random.below(4) {
         0 => first,
         1 => last,

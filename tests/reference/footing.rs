@@ -1,7 +1,7 @@
 //! Soil and footings of document 01: operands, ranges and words 2 to 7 of their rows.
 //! Assumes of a row's operands that they are in range and that a soil was given.
 
-use super::members::{bits, signed, within, word, Coefficient};
+use super::members::{bits, signed, wide, within, word, Coefficient};
 use super::operands::Operands;
 use super::{take_down, Held};
 
@@ -62,6 +62,11 @@ impl SoilGiven {
 }
 
 impl Operands for SoilGiven {
+    fn values(&self) -> Vec<i64> {
+        let value = self.value.to_bits();
+        [self.kind.into(), value.into(), self.sensitive.into()].to_vec()
+    }
+
     fn each(&self, mut test: impl FnMut(&'static str, bool) -> bool) -> bool {
         test("kind", self.kind <= 1)
             && test("value", true)
@@ -146,6 +151,14 @@ impl Footing {
 }
 
 impl Operands for Footing {
+    fn values(&self) -> Vec<i64> {
+        let pairs = [self.n, self.x, self.y, self.h];
+        let loads = pairs.iter().flat_map(|&(v, e)| [v, e]).collect();
+        let element = wide(&[self.mr, self.me]);
+        let last = vec![self.u, self.p, self.flags.into()];
+        [vec![self.b, self.l], element, loads, last].concat()
+    }
+
     fn each(&self, mut test: impl FnMut(&'static str, bool) -> bool) -> bool {
         let side = 500..=20_000;
         let size = |load: i64| within(load.unsigned_abs());

@@ -24,6 +24,11 @@ pub fn signed<const N: usize>(b: &[u8; N], at: usize) -> i64 {
     i64::from(bits(b, at) as i32)
 }
 
+/// Unsigned operands as signed numbers, which are wide enough for them.
+pub fn wide(values: &[u64]) -> Vec<i64> {
+    values.iter().map(|&value| value as i64).collect()
+}
+
 pub fn within(value: u64) -> bool {
     value <= LIMIT
 }
@@ -61,6 +66,10 @@ impl Settings {
 }
 
 impl Operands for Settings {
+    fn values(&self) -> Vec<i64> {
+        wide(&[self.q, self.gj, self.gf])
+    }
+
     fn each(&self, mut test: impl FnMut(&'static str, bool) -> bool) -> bool {
         let overstrength = 100..=200;
         test("q", (100..=400).contains(&self.q))
@@ -99,6 +108,10 @@ impl Joint {
 }
 
 impl Operands for Joint {
+    fn values(&self) -> Vec<i64> {
+        [self.rb, self.rc, self.eb].map(i64::from).to_vec()
+    }
+
     fn each(&self, mut test: impl FnMut(&'static str, bool) -> bool) -> bool {
         test("id", true)
             && test("RB", within(u64::from(self.rb)))
@@ -189,6 +202,11 @@ impl Column {
 }
 
 impl Operands for Column {
+    fn values(&self) -> Vec<i64> {
+        let [a, b, c, d] = self.r;
+        wide(&[self.length, a, b, c, d, self.ve, self.vr])
+    }
+
     fn each(&self, mut test: impl FnMut(&'static str, bool) -> bool) -> bool {
         ends(self.length, &self.r, &mut test)
             && test("VE", within(self.ve))
@@ -226,6 +244,12 @@ impl Beam {
 }
 
 impl Operands for Beam {
+    fn values(&self) -> Vec<i64> {
+        let [a, b, c, d] = self.r;
+        let ends = wide(&[self.length, a, b, c, d]);
+        [ends, vec![self.v0], wide(&[self.ve, self.vr])].concat()
+    }
+
     fn each(&self, mut test: impl FnMut(&'static str, bool) -> bool) -> bool {
         ends(self.length, &self.r, &mut test)
             && test("V0", within(self.v0.unsigned_abs()))
@@ -271,6 +295,12 @@ impl NoHinges {
 }
 
 impl Operands for NoHinges {
+    fn values(&self) -> Vec<i64> {
+        let ids = self.joints.map(|id| id as i64).to_vec();
+        let loads = [wide(&self.me), vec![self.v0]].concat();
+        [wide(&[self.length]), ids, loads, wide(&[self.vr])].concat()
+    }
+
     fn each(&self, mut test: impl FnMut(&'static str, bool) -> bool) -> bool {
         test("length", member_length(self.length))
             && test("joint1", true)
@@ -348,6 +378,17 @@ impl WallBase {
 }
 
 impl Operands for WallBase {
+    fn values(&self) -> Vec<i64> {
+        wide(&[
+            self.length,
+            self.thickness,
+            self.mr,
+            self.me,
+            self.ve,
+            self.vr,
+        ])
+    }
+
     fn each(&self, mut test: impl FnMut(&'static str, bool) -> bool) -> bool {
         let side = 100..=10_000;
         test("length", side.contains(&self.length))
@@ -417,6 +458,10 @@ impl Storey {
 }
 
 impl Operands for Storey {
+    fn values(&self) -> Vec<i64> {
+        wide(&[self.me, self.ve, self.j, self.j0, self.vr, self.ms])
+    }
+
     /// 1 ≤ J ≤ J0 asks of each that it is at least 1, and of J that it does not exceed J0.
     fn each(&self, mut test: impl FnMut(&'static str, bool) -> bool) -> bool {
         test("ME", within(self.me))
@@ -460,6 +505,11 @@ impl Detail {
 }
 
 impl Operands for Detail {
+    fn values(&self) -> Vec<i64> {
+        let [place, lap] = [self.place, self.lap].map(u64::from);
+        wide(&[place, self.xu, self.xy, self.mu, lap])
+    }
+
     fn each(&self, mut test: impl FnMut(&'static str, bool) -> bool) -> bool {
         test("place", self.place <= 2)
             && test("xu", self.xu <= 1000)

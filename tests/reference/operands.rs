@@ -1,8 +1,11 @@
-//! The tests of a command's operands: its range test, and the first operand that fails it.
+//! A command's operands: their values, their range test, and the first operand that fails it.
 //! Assumes of a command's tests that each operand has one of its own, in the order of the file, before the relation has one.
 
 /// A command whose operands have ranges.
 pub trait Operands {
+    /// The values in the order of the file, without a joint's id; a soil value by its bits.
+    fn values(&self) -> Vec<i64>;
+
     /// Gives `test` the name of an operand and whether it is in range, operand by operand in the order of the file; then, where a
     /// relation holds between operands, the name of the one that breaks it and whether it holds. Stops at the first that
     /// `test` does not pass, and tells whether all passed.

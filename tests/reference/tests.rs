@@ -1,5 +1,6 @@
-//! Tries the calls where a listing does not show them: short and long slices, the operand at fault, totals, take-down.
+//! Tries the calls where a listing does not show them: short and long slices, the operand at fault, totals, take-down, writing.
 
+use super::{at_fault, commands, layout, read_command, write_command, Command, Written};
 use super::{fault, run, size, take_down, total, Fault, Refusal, Totals};
 
 /// Settings 350, 140, 120, a detail that passes, one that does not with a lap at a wall base, end.
@@ -297,4 +298,94 @@ fn take_down_is_exact() {
             );
         }
     }
+}
+
+// Writing a command.
+
+/// The answer, and the bytes lent after the call, each A5 before it.
+fn written(code: u8, values: &[i64], room: usize) -> (Written, Vec<u8>) {
+    let mut bytes = vec![0xA5; room];
+    let command = Command {
+        code,
+        values: values.to_vec(),
+    };
+    (write_command(&command, &mut bytes), bytes)
+}
+
+fn answer(number: u32, bytes: usize) -> Written {
+    Written {
+        number,
+        offset: 0,
+        bytes,
+    }
+}
+
+#[test]
+fn a_command_is_written_and_nothing_else() {
+    let (found, bytes) = written(1, &[350, 140, 120], 9);
+    assert_eq!(found, answer(0, 7));
+    assert_eq!(bytes, [1, 1, 94, 0, 140, 0, 120, 0xA5, 0xA5]);
+    let (found, bytes) = written(5, &[3000, 255, 0, 1, 2, -88_000, 3], 23);
+    assert_eq!(found, answer(0, 23));
+    assert_eq!(bytes[..7], [5, 0, 0, 0x0B, 0xB8, 255, 0]);
+    assert_eq!(bytes[15..19], [0xFF, 0xFE, 0xA8, 0x40]);
+    let (found, bytes) = written(8, &[1, 1, 1], 7);
+    assert_eq!(found, answer(0, 7));
+    assert_eq!(bytes, [8, 1, 0, 0, 0, 1, 1]);
+    assert_eq!(written(0, &[], 1), (answer(0, 1), vec![0]));
+}
+
+#[test]
+fn five_is_tried_before_eleven_and_both_change_nothing() {
+    for room in [0, 6, 7, 58] {
+        let refused = (answer(5, 0), vec![0xA5; room]);
+        assert_eq!(written(1, &[70_000 + 350, 140, 120], room), refused);
+        assert_eq!(written(2, &[300, 0, 0, 0], room), refused);
+        assert_eq!(written(7, &[0, 0, 2, 1, 0, 0], room), refused);
+        assert_eq!(written(8, &[0, 0x8000_0000, 0], room), refused);
+        assert_eq!(written(8, &[256, 0, 0], room), refused);
+    }
+    for room in [0, 6] {
+        let refused = (answer(11, 0), vec![0xA5; room]);
+        assert_eq!(written(1, &[350, 140, 120], room), refused);
+    }
+    assert_eq!(written(0, &[], 0), (answer(11, 0), vec![]));
+}
+
+/// Each operand in turn at the ends of its range and one beyond, in the bytes of a file: the writer's range test finds what the
+/// reader's finds, and a command in range is written as it was read.
+#[test]
+fn the_writer_and_the_reader_have_the_same_ranges() {
+    for code in 1..=10 {
+        for (place, (_, least, most)) in layout(code).into_iter().enumerate() {
+            for number in [least - 1, least, most, most + 1] {
+                let bytes = command(code, &[(place, number as u32)]);
+                let read = read_command(&bytes).expect("a whole command");
+                assert_eq!(read.at_fault(), at_fault(code, &bytes[1..]));
+                if read.at_fault().is_none() {
+                    let found = written(code, &read.values, bytes.len());
+                    assert_eq!(found, (answer(0, bytes.len()), bytes));
+                }
+            }
+        }
+    }
+}
+
+#[test]
+fn commands_have_their_offsets_and_end_with_the_end() {
+    let end = Command {
+        code: 0,
+        values: vec![],
+    };
+    let detail = |values: [i64; 5]| Command {
+        code: 10,
+        values: values.to_vec(),
+    };
+    let job = [&JOB[..], &[0, 1, 2]].concat();
+    let found = commands(&job);
+    assert_eq!(found[0].1.values, [350, 140, 120]);
+    assert_eq!(found[1], (7, detail([0, 131, 250, 1000, 0])));
+    assert_eq!(found[2], (16, detail([2, 132, 250, 1000, 1])));
+    assert_eq!(found[3..], [(25, end)]);
+    assert_eq!(commands(&JOB[..24]).len(), 2);
 }

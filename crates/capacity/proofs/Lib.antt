@@ -1,4 +1,5 @@
--- Demand 3 for a whole job; what `run` gives twice and on a longer slice; joints given again; its verdicts at their bounds.
+-- Demand 3 for a whole job; what `run` gives twice and on a longer slice; joints given again; jobs and the call
+-- `write`; its verdicts at their bounds.
 mod Ranges
 mod RowsTrue
 mod Whole
@@ -6,4 +7,5 @@ mod Written
 mod Runs
 pub mod SameWords
 pub mod Revised
+pub mod WrittenAgain
 pub mod Edges

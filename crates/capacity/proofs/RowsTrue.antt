@@ -26,7 +26,8 @@ use Rattle.context.specs.Context.{Context, Ground, whenGiven}
 use Rattle.rows.specs.Rows.{rowsOf, rowsWith}
 use Rattle.job.specs.Placed.{Placed}
 use Rattle.capacity.specs.DemandThree.{Claim, footingClaim, claimsOf, claimsWith}
-use Rattle.capacity.proofs.Ranges.{ContextRange, SignedFit, Good}
+use Rattle.format.specs.Types.{OfTypes}
+use Rattle.capacity.proofs.Ranges.{ContextRange, Good}
 
 -- as many rows as claims, and each claim holds of its row
 abbrev pub Pairwise : List Claim → List Row → Type 0
@@ -36,7 +37,7 @@ Pairwise (c ∷ cs) [] = ⊥
 Pairwise (c ∷ cs) (r ∷ rs) = c r × Pairwise cs rs
 
 module _ (h : Context) (s : Settings) (range : ContextRange h) (r : SettingsRange s) where
-  with-settings : (c : Command) → inRange c ≡ true → SignedFit c → Pairwise (claimsWith h s c) (rowsWith h s c)
+  with-settings : (c : Command) → inRange c ≡ true → OfTypes c → Pairwise (claimsWith h s c) (rowsWith h s c)
   unfolding claimsWith rowsWith
   with-settings finish i f = tt
   with-settings (settings x) i f = tt
@@ -49,7 +50,7 @@ module _ (h : Context) (s : Settings) (range : ContextRange h) (r : SettingsRang
           Pairwise (whenGiven o1 (λ i. whenGiven o2 (λ j. (λ r. Hold (hingelessClaims s i j m r)) ∷ []))) (whenGiven o1 (λ i. whenGiven o2 (λ j. hingelessRow s i j m ∷ [])))
       two-joints none o2 r1 r2 = tt
       two-joints (some j1) none r1 r2 = tt
-      two-joints (some j1) (some j2) r1 r2 = (hingeless-holds s j1 j2 m (hingeless-range s r j1 j2 (r1 j1 refl) (r2 j2 refl) id1 id2 m f i), tt)
+      two-joints (some j1) (some j2) r1 r2 = (hingeless-holds s j1 j2 m (hingeless-range s r j1 j2 (r1 j1 refl) (r2 j2 refl) id1 id2 m (f .2) i), tt)
   with-settings (wallBase b) i f = (base-holds (s .behaviour) b, tt)
   with-settings (storey x) i f = of-wall (h .wall)
     where
@@ -74,4 +75,4 @@ rows-true p g = given-settings (p .context .settings) (g .context .settings)
     given-settings : (o : Option Settings) → ((s : Settings) → o ≡ some s → SettingsRange s) →
         Pairwise (whenGiven o (λ s. claimsWith (p .context) s (p .command))) (whenGiven o (λ s. rowsWith (p .context) s (p .command)))
     given-settings none r = tt
-    given-settings (some s) r = with-settings (p .context) s (g .context) (r s refl) (p .command) (g .range) (g .signed)
+    given-settings (some s) r = with-settings (p .context) s (g .context) (r s refl) (p .command) (g .range) (g .types)

@@ -1,19 +1,23 @@
-// The calls: size, fault, run, total and take-down. None has a `requires`. 01, "Calls".
-// 01 leaves no value of these calls free: each answer and each lent word is promised by equation.
+// The calls: size, fault, run, total, take-down and write. None has a `requires`. 01, "Calls"; 02, No. 2.
+// The papers leave no value of these calls free: each answer, each lent word and each lent byte is promised by equation.
+use format::Command;
 use job::FaultAnswer;
 use job::RowCount;
 use job::Walked;
 use soil::TakeDown;
 use totals::Totals;
+use writing::Written;
 ghost use mathlib.Core.Path.{_≡_};
 ghost use mathlib.Core.Bool.{true};
 ghost use lib.ListN.{length};
 ghost use Rattle.cubes.specs.Cube.{LentCubes};
+ghost use Rattle.format.specs.Reading.{commandAt};
 ghost use Rattle.soil.specs.Answers.{answerOf};
 ghost use Rattle.soil.specs.Taken.{takeDown};
 ghost use Rattle.totals.specs.Answers.{totalAnswer};
 ghost use Rattle.totals.specs.Total.{totalOf};
 ghost use Rattle.job.specs.Answers.{rowCountAnswer, sizeOf, faultOf};
+ghost use Rattle.writing.specs.Answers.{answerOf as writeAnswer, writeOf, bytesAfter};
 ghost use Rattle.capacity.specs.Calls.{runAnswer, runOf, rowsAfter, Writes};
 ghost use Rattle.capacity.specs.DemandThree.{DemandThree};
 
@@ -55,6 +59,15 @@ pub fn take_down(kind: u8, value: f32) -> TakeDown
     soil::take_down(kind, value)
 }
 
+// The bytes of one command, written from the slice's first byte on.
+pub fn write(command: Command, bytes: &mut [u8]) -> Written
+    ensures answer { λ r. ⌜ writeAnswer r ≡ writeOf command (length (now (bytes .entry))) ⌝ }
+    ensures bytes { λ r. ⌜ now (bytes .exit) ≡ bytesAfter command (now (bytes .entry)) ⌝ }
+    ensures back { λ r. ⌜ (writeAnswer r .number ≡ 0 → commandAt (now (bytes .exit)) 0 ≡ command) ⌝ }
+{
+    writing::write(command, bytes)
+}
+
 // The rows of a job, where it is accepted and there is room for all. The cubes may be lent or not.
 fn write_with(job: &[u8], table: &[u64], rows: &mut [i64])
     requires { ⌜ LentCubes (now table) ⌝ }
@@ -74,7 +87,7 @@ fn write_with(job: &[u8], table: &[u64], rows: &mut [i64])
 }
 
 // The same: the table of cubes is made once for a job with storeys, and not for another.
-fn write(job: &[u8], storeys: bool, rows: &mut [i64])
+fn write_rows(job: &[u8], storeys: bool, rows: &mut [i64])
     ensures { λ r. ⌜ Writes (now (job .entry)) (now (rows .entry)) (now (rows .exit)) ⌝ }
 {
     if storeys {
@@ -101,7 +114,7 @@ pub fn run(job: &[u8], rows: &mut [i64]) -> Ran
             if rows.len() / 8 < n {
                 return Ran::TooShort(n);
             }
-            write(job, walk.storeys, rows);
+            write_rows(job, walk.storeys, rows);
             Ran::Rows(n)
         }
     }

@@ -7,23 +7,26 @@
  * links dynamically takes more at its first call, where the loader looks for memset.
  *
  * Lent memory. A pointer and a number of elements, which the caller owns; the call reads or writes there during the call and
- * keeps no pointer. `rows` of eak_run must not overlap `job`. Words (int64_t) are aligned to 8 bytes. A size in bytes is at most
- * PTRDIFF_MAX.
+ * keeps no pointer. A call changes no lent memory beyond what it says. `rows` of eak_run must not overlap `job`. Words (int64_t) are
+ * aligned to 8 bytes. A size in bytes is at most PTRDIFF_MAX.
  * A pointer is never NULL, also where the number of elements is 0: pass the address of any object then, of an int64_t for `rows`.
  * Nothing is read or written there. (A vector without elements may have NULL as its address: test for it.)
- * These are the only things asked of a caller: every byte of a job and every word of a row may have any value.
+ * These are the only things asked of a caller: every byte of a job, every word of a row and every member of a struct may have any
+ * value.
  *
- * Refusals. No call prints, aborts or sets errno: an answer has the number of the refusal, 0 where there is none. docs/FORMAT.md
- * has the causes and the remedies:
+ * Refusals. No call prints, aborts or sets errno: an answer has the number of the refusal, 0 where there is none. A refusal carries
+ * offset 0 where no other is stated. docs/FORMAT.md has the causes and the remedies:
  *    1  command cut short, at its start; no end, at the job's length
  *    2  unknown command
  *    3  bytes after end, at the first
  *    4  first command not settings, or settings again
- *    5  operand out of range; from eak_total a verdict outside 0 to 255; from eak_take_down kind or value out of range
+ *    5  operand out of range, in a job and from the eak_write calls; from eak_total a verdict outside 0 to 255; from eak_take_down
+ *       kind or value out of range
  *    6  joint id not yet given, storey without wall base, footing without soil
  *    7  no longer given (before version 1.1.0: joint id given twice; a joint given again now replaces the earlier one)
  *    8  a 4,097th command, end not counted
  *    9  too few words for the rows
+ *   11  too few bytes for the command, from the eak_write calls (10 is the listing program's: its input is too long)
  */
 #ifndef EAK_CAPACITY_H
 #define EAK_CAPACITY_H
@@ -36,10 +39,10 @@
 extern "C" {
 #endif
 
-/* The version that this header belongs to, 1.1.0: 10,000 times the major number, 100 times the minor one, and the patch. A call is
+/* The version that this header belongs to, 1.2.0: 10,000 times the major number, 100 times the minor one, and the patch. A call is
  * changed or removed with the major number; with the minor one a call is added, or jobs are accepted that were refused.
  * eak_version answers the library's. */
-#define EAK_VERSION 10100
+#define EAK_VERSION 10200
 
 /* The words of a row. Word 0 is the command's offset in the job, word 1 its byte, word 7 the verdict, 0 for passed. */
 #define EAK_ROW_WORDS 8
@@ -47,6 +50,9 @@ extern "C" {
 /* No job has more rows: 4,096 commands at most, of which the settings and a soil write none and 4,094 footings write two each. A
  * slice of EAK_MOST_ROWS times EAK_ROW_WORDS words is enough for every job. */
 #define EAK_MOST_ROWS 8188
+
+/* No command has more bytes: a footing has 58. With so much room no write is refused with 11. */
+#define EAK_COMMAND_BYTES 58
 
 /* A call takes less stack. */
 #define EAK_STACK_BYTES 16384
@@ -83,6 +89,121 @@ struct eak_soil_answer {
     uint32_t value;  /* the whole number, 0 in a refusal */
 };
 
+/* The answer of the eak_write calls. */
+struct eak_write_answer {
+    uint32_t number; /* the refusal, 5 or 11, or 0 */
+    size_t offset;   /* always 0 */
+    size_t bytes;    /* the bytes written, 0 in a refusal */
+};
+
+/* The values of each command, in the file's order, for the eak_write calls; each member with its meaning, unit and range. A value out
+ * of range is refusal 5 and is never cut to its width in the file: an id of 300 does not become 44. A number below zero that is stored
+ * in a uint32_t is far above the range of every member but `j` and `j0`. */
+
+/* 01 settings */
+struct eak_settings {
+    uint32_t q;  /* behaviour factor, hundredths, 100 to 400 */
+    uint32_t gj; /* overstrength of joints, hundredths, 100 to 200 */
+    uint32_t gf; /* overstrength of foundations, hundredths, 100 to 200 */
+};
+
+/* 02 joint */
+struct eak_joint {
+    uint32_t id; /* 0 to 255 */
+    uint32_t rb; /* sum of the strengths of the beams, N m, 0 to 100,000,000 */
+    uint32_t rc; /* sum of the strengths of the columns, N m, 0 to 100,000,000 */
+    uint32_t eb; /* sum of the seismic moments of the beams, N m, 0 to 100,000,000 */
+};
+
+/* 03 column */
+struct eak_column {
+    uint32_t length;   /* mm, 500 to 100,000 */
+    uint32_t r1_plus;  /* strength of end 1, plus direction, N m, 0 to 100,000,000 */
+    uint32_t r2_plus;  /* strength of end 2, plus direction, N m, 0 to 100,000,000 */
+    uint32_t r1_minus; /* strength of end 1, minus direction, N m, 0 to 100,000,000 */
+    uint32_t r2_minus; /* strength of end 2, minus direction, N m, 0 to 100,000,000 */
+    uint32_t ve;       /* seismic shear, N, 0 to 100,000,000 */
+    uint32_t vr;       /* shear strength, N, 0 to 100,000,000 */
+};
+
+/* 04 beam */
+struct eak_beam {
+    uint32_t length;   /* mm, 500 to 100,000 */
+    uint32_t r1_plus;  /* strength of end 1, plus direction, N m, 0 to 100,000,000 */
+    uint32_t r2_plus;  /* strength of end 2, plus direction, N m, 0 to 100,000,000 */
+    uint32_t r1_minus; /* strength of end 1, minus direction, N m, 0 to 100,000,000 */
+    uint32_t r2_minus; /* strength of end 2, minus direction, N m, 0 to 100,000,000 */
+    int32_t v0;        /* shear of the non-seismic loads, N, -100,000,000 to 100,000,000 */
+    uint32_t ve;       /* seismic shear, N, 0 to 100,000,000 */
+    uint32_t vr;       /* shear strength, N, 0 to 100,000,000 */
+};
+
+/* 05 member without hinges */
+struct eak_hingeless {
+    uint32_t length; /* mm, 500 to 100,000 */
+    uint32_t id1;    /* id of the joint at end 1, 0 to 255 */
+    uint32_t id2;    /* id of the joint at end 2, 0 to 255 */
+    uint32_t me1;    /* seismic moment of end 1, N m, 0 to 100,000,000 */
+    uint32_t me2;    /* seismic moment of end 2, N m, 0 to 100,000,000 */
+    int32_t v0;      /* shear of the non-seismic loads, N, -100,000,000 to 100,000,000 */
+    uint32_t vr;     /* shear strength, N, 0 to 100,000,000 */
+};
+
+/* 06 wall base */
+struct eak_wall_base {
+    uint32_t length;    /* of the section, mm, 100 to 10,000 */
+    uint32_t thickness; /* of the section, mm, 100 to 10,000 */
+    uint32_t mr;        /* moment strength, N m, 0 to 100,000,000 */
+    uint32_t me;        /* seismic moment, N m, 0 to 100,000,000 */
+    uint32_t ve;        /* seismic shear, N, 0 to 100,000,000 */
+    uint32_t vr;        /* shear strength, N, 0 to 100,000,000 */
+};
+
+/* 07 storey of the latest wall */
+struct eak_storey {
+    uint32_t me; /* seismic moment, N m, 0 to 100,000,000 */
+    uint32_t ve; /* seismic shear, N, 0 to 100,000,000 */
+    uint32_t j;  /* inertia of this section, cm^4, 1 to j0 */
+    uint32_t j0; /* inertia of the base section, cm^4, 1 to 4,294,967,295 */
+    uint32_t vr; /* shear strength, N, 0 to 100,000,000 */
+    uint32_t ms; /* moment strength, N m, 0 to 100,000,000 */
+};
+
+/* 08 soil. The value goes into the file with its 32 bits. -0.0, a NaN and an infinity are out of range. */
+struct eak_soil {
+    uint32_t kind;      /* 0 granular, 1 cohesive */
+    float value;        /* kind 0: tangent of the friction angle, 0 to 2.0; kind 1: undrained strength, kPa, 0 to 1000.0 */
+    uint32_t sensitive; /* 1 for seismically sensitive soil, else 0 */
+};
+
+/* 09 footing. V: of the non-seismic loads; E: of the seismic action. */
+struct eak_footing {
+    uint32_t b;     /* side B, mm, 500 to 20,000 */
+    uint32_t l;     /* side L, mm, 500 to 20,000 */
+    uint32_t mr;    /* moment strength of the element above, N m, 0 to 100,000,000 */
+    uint32_t me;    /* seismic moment of the element above, N m, 0 to 100,000,000 */
+    int32_t nv;     /* normal force, V, N, -100,000,000 to 100,000,000; pressing down is positive */
+    int32_t ne;     /* normal force, E, N, -100,000,000 to 100,000,000 */
+    int32_t xv;     /* moment along B, V, N m, -100,000,000 to 100,000,000 */
+    int32_t xe;     /* moment along B, E, N m, -100,000,000 to 100,000,000 */
+    int32_t yv;     /* moment along L, V, N m, -100,000,000 to 100,000,000 */
+    int32_t ye;     /* moment along L, E, N m, -100,000,000 to 100,000,000 */
+    int32_t hv;     /* horizontal force, V, N, -100,000,000 to 100,000,000 */
+    int32_t he;     /* horizontal force, E, N, -100,000,000 to 100,000,000 */
+    uint32_t u;     /* uplift, N, 0 to 100,000,000 */
+    uint32_t p;     /* full passive thrust, N, 0 to 100,000,000 */
+    uint32_t flags; /* 0 to 3: 1 for uncertainties minimised, plus 2 for strict tolerances */
+};
+
+/* 0A detail */
+struct eak_detail {
+    uint32_t place; /* 0 column, 1 beam, 2 wall base */
+    uint32_t xu;    /* depth of the compression zone, ultimate state, thousandths of the section depth, 0 to 1000 */
+    uint32_t xy;    /* depth of the compression zone, yield, thousandths of the section depth, 0 to 1000 */
+    uint32_t mu;    /* ductility of curvature, hundredths, 1000 to 2000 */
+    uint32_t lap;   /* 1 where the longitudinal bars are lapped here, else 0 */
+};
+
 /* The library's version; EAK_VERSION is the header's. */
 uint32_t eak_version(void);
 
@@ -106,6 +227,27 @@ struct eak_totals_answer eak_total(const int64_t *rows, size_t row_words, size_t
  * 1000.0, times 1,000. Any kind and any value may be given, a NaN too: another kind, a set sign bit (also that of -0.0), a NaN,
  * an infinity or a value above the top is refusal 5. */
 struct eak_soil_answer eak_take_down(uint8_t kind, float value);
+
+/* Writing a job, one command a call: its values, then the bytes where it is to stand and how many there are. A call writes the command
+ * from bytes[0] on and answers its bytes; where `room` is larger, the bytes after them stay as they were. It tries
+ *    5  a value is out of range; where each is within its range, J is above J0, or the kind does not allow the soil value
+ *   11  `room` is less than the command's bytes; exactly as many suffice
+ * in this order, 5 whatever the room is; in a refusal every byte stays as it was. What depends on the commands before it (4, 6, 8) is
+ * not tried: eak_size of the finished job does that. Each command is written where the last one ended, and the end is the last:
+ *    answer = eak_write_column(column, job + n, room - n);
+ *    n += answer.bytes;
+ */
+struct eak_write_answer eak_write_settings(struct eak_settings values, uint8_t *bytes, size_t room);
+struct eak_write_answer eak_write_joint(struct eak_joint values, uint8_t *bytes, size_t room);
+struct eak_write_answer eak_write_column(struct eak_column values, uint8_t *bytes, size_t room);
+struct eak_write_answer eak_write_beam(struct eak_beam values, uint8_t *bytes, size_t room);
+struct eak_write_answer eak_write_hingeless(struct eak_hingeless values, uint8_t *bytes, size_t room);
+struct eak_write_answer eak_write_wall_base(struct eak_wall_base values, uint8_t *bytes, size_t room);
+struct eak_write_answer eak_write_storey(struct eak_storey values, uint8_t *bytes, size_t room);
+struct eak_write_answer eak_write_soil(struct eak_soil values, uint8_t *bytes, size_t room);
+struct eak_write_answer eak_write_footing(struct eak_footing values, uint8_t *bytes, size_t room);
+struct eak_write_answer eak_write_detail(struct eak_detail values, uint8_t *bytes, size_t room);
+struct eak_write_answer eak_write_end(uint8_t *bytes, size_t room);
 
 #ifdef __cplusplus
 }

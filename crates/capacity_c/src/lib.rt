@@ -16,6 +16,8 @@ ghost use Rattle.capacity.specs.Calls.{runAnswer, runOf, rowsAfter};
 ghost use Rattle.capacity.specs.DemandThree.{DemandThree};
 ghost use Rattle.capacity_c.specs.Exported.{jobAnswer, faultFound, totalsAnswer, soilAnswer};
 
+mod writes; // writes.rt: the calls that write a command
+
 // The answer of size and of run.
 #[repr(C)]
 pub struct JobAnswer {
@@ -192,7 +194,7 @@ pub extern "C" fn eak_take_down(kind: u8, value: f32) -> SoilAnswer
 // The version of these calls: 10,000 times the major number, 100 times the minor one, and the patch; the header's EAK_VERSION.
 #[no_mangle]
 pub extern "C" fn eak_version() -> u32
-    ensures { λ r. ⌜ r ≡ 10100 ⌝ }
+    ensures { λ r. ⌜ r ≡ 10200 ⌝ }
 {
-    10100
+    10200
 }

@@ -23,7 +23,8 @@ use Rattle.footing.specs.declared.Footing.{Footing}
 use Rattle.footing.specs.Rows.{FootingRange}
 use Rattle.format.specs.declared.Command.the-variants.{Settings as settings, Joint as joint, WallBase as wallBase, Beam as beam, Footing as footing, Column as column, Hingeless as hingeless, Storey as storey, Detail as detail}
 use Rattle.format.specs.Commands.{inRange}
-use Rattle.format.proofs.CommandRanges.{FootingFits, settings-in-range, joint-in-range, column-in-range, hingeless-in-range, storey-in-range, detail-in-range, wall-base-in-range, beam-in-range, footing-in-range}
+use Rattle.format.specs.Types.{FootingFits}
+use Rattle.format.proofs.CommandRanges.{settings-in-range, joint-in-range, column-in-range, hingeless-in-range, storey-in-range, detail-in-range, wall-base-in-range, beam-in-range, footing-in-range}
 use Rattle.context.specs.Running.{jointHeld, SettingsRange, SoundSums}
 
 pub settings-range : (s : Settings) → inRange (settings s) ≡ true → SettingsRange s

@@ -14,11 +14,10 @@ use Rattle.layout.specs.Forms.{formInRange}
 use Rattle.layout.specs.Layouts.{known, formsOf}
 use Rattle.layout.specs.Operands.{byteAt, operandsAt}
 use Rattle.layout.proofs.Numbers.{Bytes}
-use Rattle.layout.proofs.OperandsRead.{at, operands-length, operands-fit}
-use Rattle.format.specs.Commands.{byteOf, operandsOf, firstOutside, relationNames, operandAtFault}
+use Rattle.layout.proofs.OperandsRead.{at, operands-length}
+use Rattle.format.specs.Commands.{firstOutside, relationNames, operandAtFault}
 use Rattle.format.specs.Reading.{commandAt}
-use Rattle.format.proofs.RoundTrip.{operands-back}
-use Rattle.format.proofs.CommandRead.{byte-read}
+use Rattle.format.proofs.CommandRead.{byte-read, operands-read}
 
 -- each of the first i operands is in its range
 abbrev pub InBefore : List Form → List ℕ → ℕ → Type 0
@@ -48,16 +47,12 @@ module _ (job : List ℕ) (start : ℕ) (b : Bytes job) (known-byte : known (byt
   abbrev byte : ℕ
   byte = byteAt job start
 
-  operands-read : operandsOf (commandAt job start) ≡ operandsAt job start
-  unfolding commandAt
-  operands-read = operands-back byte (operandsAt job start) (operands-length job start) (operands-fit job start b)
-
   pub operand-found : (i : ℕ) → i < length (formsOf byte) → InBefore (formsOf byte) (operandsAt job start) i → formInRange (getD (formsOf byte) i Id) (at (operandsAt job start) i) ≡ false → operandAtFault (commandAt job start) ≡ i
   unfolding operandAtFault
   operand-found i l h f =
-      rw (byte-read job start known-byte, operands-read, first-is (formsOf byte) (operandsAt job start) i (operands-length job start) l h f, lt-ltb i (length (formsOf byte)) l)
+      rw (byte-read job start known-byte, operands-read job start b, first-is (formsOf byte) (operandsAt job start) i (operands-length job start) l h f, lt-ltb i (length (formsOf byte)) l)
 
   pub relation-found : InBefore (formsOf byte) (operandsAt job start) (length (formsOf byte)) → operandAtFault (commandAt job start) ≡ relationNames byte
   unfolding operandAtFault
   relation-found h =
-      rw (byte-read job start known-byte, operands-read, first-none (formsOf byte) (operandsAt job start) (operands-length job start) h, le-ltb (length (formsOf byte)) (length (formsOf byte)) (omega arith))
+      rw (byte-read job start known-byte, operands-read job start b, first-none (formsOf byte) (operandsAt job start) (operands-length job start) h, le-ltb (length (formsOf byte)) (length (formsOf byte)) (omega arith))

@@ -24,6 +24,7 @@ use Rattle.layout.specs.Number.{signed32}
 use Rattle.layout.specs.Forms.{formInRange}
 use Rattle.layout.specs.Layouts.{formsOf, formsIn}
 use Rattle.format.specs.Commands.{SoilGiven, settings, joint, column, beam, hingeless, wallBase, storey, soil, footing, detail, operandsOf, commandOf, related, inRange, settingsOf, jointOf, columnOf, beamOf, hingelessOf, wallBaseOf, storeyOf, soilGivenOf, footingOf, detailOf}
+use Rattle.format.specs.Types.{FootingFits}
 use Rattle.layout.proofs.Numbers.{signed-of-bits}
 use Rattle.layout.proofs.OperandsRead.{at}
 use Rattle.format.proofs.RangeTest.{and-first, and-second, EachIn, values-each, values-related}
@@ -34,7 +35,7 @@ least : (range : Range) (x : ℕ) → within range x ≡ true → range .least �
 unfolding within
 least range x h = leb-true (range .least) x (and-first (leb (range .least) x) (leb x (range .greatest)) h)
 
-most : (range : Range) (x : ℕ) → within range x ≡ true → x ≤ range .greatest
+pub most : (range : Range) (x : ℕ) → within range x ≡ true → x ≤ range .greatest
 unfolding within
 most range x h = leb-true x (range .greatest) (and-second (leb (range .least) x) (leb x (range .greatest)) h)
 
@@ -303,17 +304,6 @@ storey-in-range s h = storey-operands (at (operandsOf (storey s))) (values-each 
 pub soil-in-range : (s : SoilGiven) → inRange (soil s) ≡ true → SoilGivenOperands s
 unfolding commandOf
 soil-in-range s h = soil-operands (at (operandsOf (soil s))) (values-each (soil s) h) (values-related (soil s) h)
-
--- each signed value of a footing is one of 32 bits
-pub record FootingFits (f : Footing) : Type 0 where
-  pub nv : SFits w32 (f .nv)
-  pub ne : SFits w32 (f .ne)
-  pub xv : SFits w32 (f .xv)
-  pub xe : SFits w32 (f .xe)
-  pub yv : SFits w32 (f .yv)
-  pub ye : SFits w32 (f .ye)
-  pub hv : SFits w32 (f .hv)
-  pub he : SFits w32 (f .he)
 
 pub footing-in-range : (f : Footing) → FootingFits f → inRange (footing f) ≡ true → FootingOperands f
 footing-in-range f p h =

@@ -1,5 +1,5 @@
--- The command at an offset of a job depends on its own operands alone, may be read operand by operand, and has the byte that stands
--- there. Assumes nothing.
+-- The command at an offset of a job depends on its own operands alone, may be read operand by operand, and has the byte and the
+-- operands that stand there. Assumes nothing.
 use mathlib.Core.List.{List}
 use mathlib.Core.Bool.{true}
 use mathlib.Core.Path.{_≡_, refl, sym, _∙_}
@@ -7,14 +7,14 @@ use Prim.Native.Nat.{ℕ, _+_, _<_}
 use lib.Dec.{lit<}
 use lib.ListN.{length}
 use Rattle.layout.specs.Layouts.{known, formsOf, formsIn}
-use Rattle.format.specs.Commands.{byteOf, commandOf}
+use Rattle.format.specs.Commands.{byteOf, operandsOf, commandOf}
 use Rattle.layout.specs.Operands.{operand, byteAt, operandsAt}
 use Rattle.format.specs.Reading.{commandAt}
 use Rattle.layout.proofs.KnownBytes.{each-byte, known-most}
 use Rattle.format.proofs.CommandBytes.{command-above}
-use Rattle.format.proofs.RoundTrip.{byte-back}
-use Rattle.layout.proofs.OperandsRead.{at}
-use Rattle.layout.proofs.OperandsRead.{operand-at}
+use Rattle.format.proofs.RoundTrip.{byte-back, operands-back}
+use Rattle.layout.proofs.Numbers.{Bytes}
+use Rattle.layout.proofs.OperandsRead.{at, operand-at, operands-length, operands-fit}
 
 -- v and w agree at the operands of a command
 abbrev pub Same : ℕ → (ℕ → ℕ) → (ℕ → ℕ) → Type 0
@@ -70,3 +70,8 @@ module _ (job : List ℕ) (start : ℕ) where
   pub byte-read : known (byteAt job start) ≡ true → byteOf (commandAt job start) ≡ byteAt job start
   unfolding commandAt
   byte-read k = byte-back (byteAt job start) (at (operandsAt job start)) (known-most (byteAt job start) k)
+
+  -- its operands are those that stand behind it
+  pub operands-read : Bytes job → operandsOf (commandAt job start) ≡ operandsAt job start
+  unfolding commandAt
+  operands-read b = operands-back (byteAt job start) (operandsAt job start) (operands-length job start) (operands-fit job start b)

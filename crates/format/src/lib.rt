@@ -224,7 +224,7 @@ fn soil_related(kind: u32, bits: u32) -> bool
 
 // ---- the range test of a command's values
 
-fn settings_in_range(s: Settings) -> bool
+pub fn settings_in_range(s: Settings) -> bool
     ensures { λ r. ⌜ r ≡ inRange (Command.Settings s) ⌝ }
 {
     Factor::behaviour_in_range(s.behaviour)
@@ -232,13 +232,13 @@ fn settings_in_range(s: Settings) -> bool
         & Factor::overstrength_in_range(s.foundations)
 }
 
-fn joint_in_range(j: Joint) -> bool
+pub fn joint_in_range(j: Joint) -> bool
     ensures { λ r. ⌜ r ≡ inRange (Command.Joint 0 j) ⌝ }
 {
     Moment::in_range(j.beams) & Moment::in_range(j.columns) & Moment::in_range(j.seismic)
 }
 
-fn column_in_range(c: Column) -> bool
+pub fn column_in_range(c: Column) -> bool
     ensures { λ r. ⌜ r ≡ inRange (Command.Column c) ⌝ }
 {
     Length::member_in_range(c.length)
@@ -250,7 +250,7 @@ fn column_in_range(c: Column) -> bool
         & Force::in_range(c.strength)
 }
 
-fn beam_in_range(b: Beam) -> bool
+pub fn beam_in_range(b: Beam) -> bool
     ensures { λ r. ⌜ r ≡ inRange (Command.Beam b) ⌝ }
 {
     Length::member_in_range(b.length)
@@ -263,7 +263,7 @@ fn beam_in_range(b: Beam) -> bool
         & Force::in_range(b.strength)
 }
 
-fn hingeless_in_range(m: Hingeless) -> bool
+pub fn hingeless_in_range(m: Hingeless) -> bool
     ensures { λ r. ⌜ r ≡ inRange (Command.Hingeless 0 0 m) ⌝ }
 {
     Length::member_in_range(m.length)
@@ -273,7 +273,7 @@ fn hingeless_in_range(m: Hingeless) -> bool
         & Force::in_range(m.strength)
 }
 
-fn wall_base_in_range(b: WallBase) -> bool
+pub fn wall_base_in_range(b: WallBase) -> bool
     ensures { λ r. ⌜ r ≡ inRange (Command.WallBase b) ⌝ }
 {
     Length::wall_in_range(b.length)
@@ -284,7 +284,7 @@ fn wall_base_in_range(b: WallBase) -> bool
         & Force::in_range(b.strength)
 }
 
-fn storey_in_range(s: Storey) -> bool
+pub fn storey_in_range(s: Storey) -> bool
     ensures { λ r. ⌜ r ≡ inRange (Command.Storey s) ⌝ }
 {
     Moment::in_range(s.moment)
@@ -300,7 +300,7 @@ fn storey_in_range(s: Storey) -> bool
         & (s.inertia <= s.baseInertia)
 }
 
-fn soil_in_range(s: SoilGiven) -> bool
+pub fn soil_in_range(s: SoilGiven) -> bool
     ensures { λ r. ⌜ r ≡ inRange (Command.Soil s) ⌝ }
 {
     quantity::between(s.kind, 0, layout::GREATEST_KIND)
@@ -308,7 +308,7 @@ fn soil_in_range(s: SoilGiven) -> bool
         & soil_related(s.kind, s.value)
 }
 
-fn footing_in_range(f: Footing) -> bool
+pub fn footing_in_range(f: Footing) -> bool
     ensures { λ r. ⌜ r ≡ inRange (Command.Footing f) ⌝ }
 {
     Length::side_in_range(f.breadth)
@@ -328,7 +328,7 @@ fn footing_in_range(f: Footing) -> bool
         & quantity::between(f.flags, 0, layout::GREATEST_FLAGS)
 }
 
-fn detail_in_range(d: Detail) -> bool
+pub fn detail_in_range(d: Detail) -> bool
     ensures { λ r. ⌜ r ≡ inRange (Command.Detail d) ⌝ }
 {
     quantity::between(d.place, 0, layout::GREATEST_PLACE)

@@ -1,7 +1,7 @@
 -- Laws of an accepted job: it begins with settings and ends with its only end, has at most 4,096 other commands, and these
 -- stand one after the other and fill it; what holds at each is what those before it leave. Assumes nothing.
 use mathlib.Core.Path.{_≡_, refl, sym, ap, _∙_, subst}
-use mathlib.Core.Bool.{false}
+use mathlib.Core.Bool.{true, false}
 use mathlib.Core.List.{List, [], _∷_, _++_}
 use Prim.Native.Nat.{ℕ, zero, suc, _+_, _-_, _≤_}
 use native.Mathlib.Omega.{arith}
@@ -10,10 +10,10 @@ use lib.Dec.{eqb}
 use lib.ListN.{length}
 use borrow.Author.Tests.{eqb-true, not-false}
 use Rattle.coefficient.specs.declared.Settings.{Settings}
-use Rattle.layout.specs.Layouts.{operandsWidth}
+use Rattle.layout.specs.Layouts.{known, operandsWidth}
 use Rattle.format.specs.declared.Command.{Command}
 use Rattle.format.specs.declared.Command.the-variants.{Settings as settings}
-use Rattle.format.specs.Commands.{byteOf, commandOf, settingsOf}
+use Rattle.format.specs.Commands.{byteOf, commandOf, settingsOf, inRange}
 use Rattle.layout.specs.Operands.{byteAt, operandsAt}
 use Rattle.format.specs.Reading.{commandAt}
 use Rattle.layout.proofs.OperandsRead.{at}
@@ -31,14 +31,17 @@ abbrev pub widthsOf : List Placed → ℕ
 widthsOf [] = 0
 widthsOf (p ∷ ps) = widthOf p + widthsOf ps
 
--- a command that stands at an offset of a job with this context and is no end; settings are in their place, and what it asks
--- for is given
+-- a command that stands whole at an offset of a job with this context and is no end; settings are in their place, its operands in
+-- range, and what it asks for is given
 pub record Stands (job : List ℕ) (offset : ℕ) (h : Context) (p : Placed) : Type 0 where
   pub place : p .offset ≡ offset
   pub read : p .command ≡ commandAt job offset
+  pub known-byte : known (byteAt job offset) ≡ true
+  pub whole : afterCommand job offset ≤ length job
   pub context : p .context ≡ h
   pub other : byteOf (p .command) ≡ 0 → ⊥
   pub settings : misplaced (byteOf (p .command)) (given (p .context .settings)) ≡ false
+  pub range : inRange (p .command) ≡ true
   pub present : absent (p .context) (p .command) ≡ false
 
 -- each of these commands stands where those before it end, with the context that they leave
@@ -70,9 +73,12 @@ module _ (job : List ℕ) (offset count : ℕ) (h : Context) (f : Faultless job 
       record {
         place = refl;
         read = refl;
+        known-byte = f .known-byte;
+        whole = f .whole;
         context = refl;
         other = λ e. z (sym same-byte ∙ e);
         settings = ap (λ (b : ℕ). misplaced b (given (h .settings))) same-byte ∙ f .settings;
+        range = f .range;
         present = f .present;
       }
 

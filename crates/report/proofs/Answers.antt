@@ -10,7 +10,7 @@ use lib.Dec.{leb}
 use lib.IntN.{ℤ}
 use lib.ListN.{length, drop, length-append, length-drop}
 use Rattle.text.specs.Lines.{refusedLine}
-use Rattle.text.specs.Written.{WritesAtMost}
+use Rattle.slices.specs.Written.{WritesAtMost}
 use Rattle.rows.specs.Writing.{joined}
 use Rattle.job.specs.Placed.{Placed, Job, refused, accepted, placed, allRows}
 use Rattle.job.specs.Answers.{Answer, rowsAnswer, refusedAnswer}

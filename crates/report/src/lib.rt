@@ -4,7 +4,7 @@ use totals::Totals;
 ghost use mathlib.Core.Path.{_≡_};
 ghost use Prim.Native.Nat.{_+_, _*_, _≤_};
 ghost use lib.ListN.{length};
-ghost use Rattle.text.specs.Written.{WritesAtMost};
+ghost use Rattle.slices.specs.Written.{WritesAtMost};
 ghost use Rattle.totals.specs.Answers.{totalAnswer};
 ghost use Rattle.job.specs.Placed.{placed};
 ghost use Rattle.report.specs.Listing.{rowsListing, jobListing, listingOf};

@@ -5,9 +5,9 @@ use Prim.Native.Nat.{ℕ, _+_, _-_, _/_, _%_, _≤_, _<_}
 use native.Mathlib.Omega.{arith}
 use lib.ListN.{length, set, length-append}
 use Rattle.text.specs.Decimal.{digit, decimal}
-use Rattle.text.specs.Written.{written}
+use Rattle.slices.specs.Written.{written}
 use Rattle.text.proofs.Digits.{decimal-one, decimal-more, length-one, length-more, some-digit}
-use Rattle.text.proofs.Writing.{length-written, written-none, written-before}
+use Rattle.slices.proofs.Writing.{length-written, written-none, written-before}
 
 -- the digits of the value after those of the rest stand in the slice, and the rest's last digit goes to `last`
 pub record Partly (before : List ℕ) (at value : ℕ) (after : List ℕ) (last rest : ℕ) : Type 0 where

@@ -1,7 +1,6 @@
--- Laws of decimals, of writing and of the lines, and 01's example as theorems.
+-- Laws of decimals and of the lines, and 01's example as theorems.
 pub mod Digits
 pub mod Signs
-pub mod Writing
 mod Backwards
 mod RowSteps
 mod Labels

@@ -9,8 +9,8 @@ use lib.ListN.{length, getD, drop, length-drop, length-map, List·getD-map}
 use lib.Seq.{getD-take, getD-drop, length-take-le}
 use Rattle.text.specs.Decimal.{signedDecimal}
 use Rattle.text.specs.Lines.{space, lineFeed, line, rowLine, rowWords}
-use Rattle.text.specs.Written.{Writes, WritesAtMost}
-use Rattle.text.proofs.Writing.{nothing, then}
+use Rattle.slices.specs.Written.{Writes, WritesAtMost}
+use Rattle.slices.proofs.Writing.{nothing, then}
 
 -- ---- a line, part by part
 

@@ -6,7 +6,7 @@ ghost use Prim.Native.Nat.{_+_, _*_, _<_, _≤_};
 ghost use lib.ListN.{length};
 ghost use Rattle.text.specs.Decimal.{digit, decimal, signedDecimal};
 ghost use Rattle.text.specs.Lines.{rowLine, rowWords, rowsText, totalsLine, refusedLine, listingText};
-ghost use Rattle.text.specs.Written.{Writes, WritesAtMost};
+ghost use Rattle.slices.specs.Written.{Writes, WritesAtMost};
 
 // The byte of a digit.
 fn digit_byte(value: u64) -> u8

@@ -5,7 +5,7 @@ use Prim.Native.Nat.{ℕ, _+_, _≤_}
 use native.Mathlib.Nat.{zero-add}
 use lib.ListN.{length, take, drop}
 use lib.Seq.{take-at, length-take-le}
-use Rattle.text.specs.Written.{written, Writes}
+use Rattle.slices.specs.Written.{written, Writes}
 
 pub read-back : {before text after : List ℕ} {n : ℕ} → Writes before 0 text after n → take n after ≡ text
 unfolding written

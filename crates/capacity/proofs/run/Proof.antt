@@ -30,8 +30,8 @@ returns c =
     let r = short-run (s .args .job .now) _ (s .args .rows .now) (accepted-run (s .args .job .now) _ e) (omega (arith, c .if1 .taken)) in
     (r .0, (r .1, λ f. absurd (differ (sym f))))
 
-write-requires : tie.Need-write-requires
-write-requires c κs = search needs
+write-rows-requires : tie.Need-write-rows-requires
+write-rows-requires c κs = search needs
 
 returns-2 : tie.Need-returns-2
 returns-2 c =
@@ -62,7 +62,7 @@ returns-4 c =
     let a = accepted-run (s .args .job .now) _ e in
     let fits = enough (s .args .job .now) _ (s .args .rows .now) a (omega (arith, i .if1 .left)) in
     let r = full-run (s .args .job .now) _ (s .args .rows .now) a (omega (arith, i .if1 .left)) in
-    let written = w .write .ensures .written (a .commands) (a .is) fits in (
+    let written = w .write-rows .ensures .written (a .commands) (a .is) fits in (
       r .0,
       (
         written ∙ r .1,
@@ -80,7 +80,7 @@ run-spec =
     enum-told
     enum-known-ended-2
     returns
-    write-requires
+    write-rows-requires
     returns-2
     returns-3
     same-length

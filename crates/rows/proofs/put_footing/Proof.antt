@@ -1,7 +1,7 @@
 -- `rows::put_footing` meets its contract: both rows from one coefficient. Assumes nothing.
 use mathlib.Core.Path.{_∙_}
 use Rattle.footing.specs.Rows.{FootingRange}
-use Rattle.format.proofs.CommandRanges.{FootingFits}
+use Rattle.format.specs.Types.{FootingFits}
 use Rattle.context.proofs.Ranges.{footing-range}
 use borrow.Author.Needs.{needs}
 use Rattle.rows.proofs.put_footing.Statement.{statement}

@@ -1,7 +1,7 @@
 -- `text::put_labelled` meets its contract: the label, then the number, which takes at most 20 bytes. Assumes nothing.
 use native.Mathlib.Omega.{arith}
 use Rattle.text.proofs.Digits.{length-decimal}
-use Rattle.text.proofs.Writing.{then}
+use Rattle.slices.proofs.Writing.{then}
 use borrow.Author.Needs.{needs}
 use Rattle.text.proofs.put_labelled.Statement.{statement}
 use Rattle.text.proofs.put_labelled.Tie as tie

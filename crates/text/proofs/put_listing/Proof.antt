@@ -1,7 +1,7 @@
 -- `text::put_listing` meets its contract: the rows take at most 168 bytes each, and the totals follow. Assumes nothing.
 use native.Mathlib.Omega.{arith}
 use Rattle.text.specs.Lines.{listingText}
-use Rattle.text.proofs.Writing.{then}
+use Rattle.slices.proofs.Writing.{then}
 use borrow.Author.Needs.{needs}
 use Rattle.text.proofs.put_listing.Statement.{statement}
 use Rattle.text.proofs.put_listing.Tie as tie

@@ -7,7 +7,7 @@ use borrow.Author.Needs.{needs}
 use lib.ListN.{length, length-set}
 use Rattle.text.specs.Lines.{lineFeed}
 use Rattle.text.proofs.Labels.{refused-labels}
-use Rattle.text.proofs.Writing.{byte, then}
+use Rattle.slices.proofs.Writing.{byte, then}
 use Rattle.text.proofs.put_refused.Statement.{statement}
 use Rattle.text.proofs.put_refused.Tie as tie
 

@@ -12,7 +12,7 @@ use mir.Syntax.{w64}
 use mir.Val.{SFits}
 use Rattle.text.specs.Decimal.{signedDecimal}
 use Rattle.text.specs.Lines.{space, lineFeed}
-use Rattle.text.specs.Written.{WritesAtMost}
+use Rattle.slices.specs.Written.{WritesAtMost}
 use Rattle.text.proofs.RowSteps.{RowPart, row-begun, row-turn, row-ended}
 use Rattle.text.proofs.put_row.Statement.{statement}
 use Rattle.text.proofs.put_row.Tie as tie

@@ -7,8 +7,8 @@ use native.Mathlib.Omega.{arith}
 use denote.Ref.{now}
 use lib.ListN.{length}
 use Rattle.text.specs.Lines.{rowsText}
-use Rattle.text.specs.Written.{Writes}
-use Rattle.text.proofs.Writing.{then, nothing}
+use Rattle.slices.specs.Written.{Writes}
+use Rattle.slices.proofs.Writing.{then, nothing}
 use Rattle.text.proofs.put_rows.Statement.{statement}
 use Rattle.text.proofs.put_rows.Tie as tie
 

@@ -8,7 +8,7 @@ use lib.ListN.{length, length-set}
 use mir.Facts.{toZ-ofZ}
 use Rattle.text.specs.Decimal.{signedDecimal, decimal, minus}
 use Rattle.text.proofs.Signs.{signed-below, signed-from}
-use Rattle.text.proofs.Writing.{byte, then}
+use Rattle.slices.proofs.Writing.{byte, then}
 use Rattle.text.proofs.put_signed.Statement.{statement}
 use Rattle.text.proofs.put_signed.Tie as tie
 

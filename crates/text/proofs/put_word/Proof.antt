@@ -6,9 +6,9 @@ use borrow.Author.Needs.{needs}
 use lib.ListN.{length}
 use mir.Facts.{toZ-ofZ}
 use Rattle.text.specs.Decimal.{signedDecimal}
-use Rattle.text.specs.Written.{Writes}
+use Rattle.slices.specs.Written.{Writes}
 use Rattle.text.proofs.Digits.{length-signed}
-use Rattle.text.proofs.Writing.{byte, then}
+use Rattle.slices.proofs.Writing.{byte, then}
 use Rattle.text.proofs.put_word.Statement.{statement}
 use Rattle.text.proofs.put_word.Tie as tie
 

@@ -7,7 +7,7 @@ use native.Mathlib.Numerals.{add-one}
 use native.Mathlib.Omega.{arith}
 use lib.ListN.{length, getD, take, drop, set, length-append, length-drop, take-append-drop}
 use lib.Seq.{length-take-le, take-suc, take-at, drop-append-add, drop-drop, set-at, set-split}
-use Rattle.text.specs.Written.{written, Writes}
+use Rattle.slices.specs.Written.{written, Put, Writes}
 
 pub written-none : (out : List ℕ) (at : ℕ) → written out at [] ≡ out
 unfolding written
@@ -61,3 +61,10 @@ then {b} {at} {s} {m} {p} {t} {c} {q} h x y =
       position = omega (arith, x .position, y .position, length-append s t);
       bytes = y .bytes ∙ rw (x .bytes, x .position) (written-after b at s t h);
     }
+
+-- a text put behind another
+pub behind : {before : List ℕ} {at : ℕ} {s between : List ℕ} {p : ℕ} {t after : List ℕ} → Put before at s between → Put between p t after → at + length s ≡ p → at ≤ length before → Put before at (s ++ t) after
+behind {before} {at} {s} {between} {p} {t} {after} x y e h = record { bytes = y .bytes ∙ rw (x .bytes, ← e) (written-after before at s t h) }
+
+pub put-length : {before : List ℕ} {at : ℕ} {text after : List ℕ} → Put before at text after → at + length text ≤ length before → length after ≡ length before
+put-length {before} {at} {text} {after} x h = rw (x .bytes) (length-written before at text h)

@@ -1,0 +1,39 @@
+-- `numbers::put_two` meets its contract: byte by byte. Assumes nothing.
+use lib.ListN.{length-set}
+use Rattle.numbers.proofs.Stores.{two-stored}
+use borrow.Author.Needs.{needs}
+use Rattle.numbers.proofs.put_two.Statement.{statement}
+use Rattle.numbers.proofs.put_two.Tie as tie
+
+cast-bytes : tie.Need-cast-bytes
+cast-bytes c = search needs
+
+slice-write-bytes : tie.Need-slice-write-bytes
+slice-write-bytes c = search needs
+
+cast-bytes-2 : tie.Need-cast-bytes-2
+cast-bytes-2 c = search needs
+
+add-bytes : tie.Need-add-bytes
+add-bytes c = search needs
+
+slice-write-bytes-2 : tie.Need-slice-write-bytes-2
+slice-write-bytes-2 c = simp length-set (search needs)
+
+same-length : tie.Need-same-length
+same-length c = search needs
+
+returns : tie.Need-returns
+returns c = two-stored (c .args .bytes .now) (c .args .at) (c .args .value) (c .pre)
+
+pub put-two-spec : {M : Type 1} → statement M
+put-two-spec =
+    tie.close
+    (tie.spec
+    cast-bytes
+    slice-write-bytes
+    cast-bytes-2
+    add-bytes
+    slice-write-bytes-2
+    same-length
+    returns)

@@ -1,0 +1,2 @@
+-- Numbers as bytes. Assumes nothing.
+pub mod BigEndian

@@ -1,0 +1,2 @@
+-- Laws of writing into a lent slice. Assumes nothing.
+pub mod Writing

@@ -1,0 +1,221 @@
+//! Plain Rust that writes a command as the library's calls do, for the benchmark: the range test, the room, the bytes.
+//! Assumes nothing. A function is never inlined, as a call of the library cannot be, so that both pay for a call.
+
+use crate::library::write::{
+    Beam, Column, Detail, End, Footing, Hingeless, Joint, Settings, Soil, Storey, Values, WallBase,
+    WriteAnswer,
+};
+
+const LIMIT: u32 = 100_000_000;
+
+pub trait Plain: Values {
+    fn write_plainly(self, bytes: &mut [u8]) -> WriteAnswer;
+}
+
+fn amounts<const N: usize>(values: [u32; N]) -> bool {
+    values.iter().all(|&value| value <= LIMIT)
+}
+
+fn loads<const N: usize>(values: [i32; N]) -> bool {
+    values.iter().all(|value| value.unsigned_abs() <= LIMIT)
+}
+
+/// The answer of a write; `fill` writes the command's N bytes where they fit.
+#[inline(always)]
+fn put<const N: usize>(
+    in_range: bool,
+    bytes: &mut [u8],
+    fill: impl FnOnce(&mut [u8; N]),
+) -> WriteAnswer {
+    let answer = |number, bytes| WriteAnswer {
+        number,
+        offset: 0,
+        bytes,
+    };
+    if !in_range {
+        return answer(5, 0);
+    }
+    let Some(room) = bytes.first_chunk_mut() else {
+        return answer(11, 0);
+    };
+    fill(room);
+    answer(0, N)
+}
+
+#[inline(always)]
+fn words<const M: usize, const N: usize>(room: &mut [u8; N], at: usize, values: [u32; M]) {
+    for (place, value) in values.into_iter().enumerate() {
+        room[at + 4 * place..][..4].copy_from_slice(&value.to_be_bytes());
+    }
+}
+
+#[inline(always)]
+fn halves<const M: usize, const N: usize>(room: &mut [u8; N], at: usize, values: [u32; M]) {
+    for (place, value) in values.into_iter().enumerate() {
+        room[at + 2 * place..][..2].copy_from_slice(&(value as u16).to_be_bytes());
+    }
+}
+
+impl Plain for End {
+    #[inline(never)]
+    fn write_plainly(self, bytes: &mut [u8]) -> WriteAnswer {
+        put::<1>(true, bytes, |b| b[0] = 0)
+    }
+}
+
+impl Plain for Settings {
+    #[inline(never)]
+    fn write_plainly(self, bytes: &mut [u8]) -> WriteAnswer {
+        let overstrength = 100..=200;
+        let in_range = (100..=400).contains(&self.q)
+            && overstrength.contains(&self.gj)
+            && overstrength.contains(&self.gf);
+        put::<7>(in_range, bytes, |b| {
+            b[0] = 1;
+            halves(b, 1, [self.q, self.gj, self.gf]);
+        })
+    }
+}
+
+impl Plain for Joint {
+    #[inline(never)]
+    fn write_plainly(self, bytes: &mut [u8]) -> WriteAnswer {
+        let sums = [self.rb, self.rc, self.eb];
+        put::<14>(self.id <= 255 && amounts(sums), bytes, |b| {
+            b[0] = 2;
+            b[1] = self.id as u8;
+            words(b, 2, sums);
+        })
+    }
+}
+
+impl Plain for Column {
+    #[inline(never)]
+    fn write_plainly(self, bytes: &mut [u8]) -> WriteAnswer {
+        let r = [self.r1_plus, self.r2_plus, self.r1_minus, self.r2_minus];
+        let shears = [self.ve, self.vr];
+        let in_range = (500..=100_000).contains(&self.length) && amounts(r) && amounts(shears);
+        put::<29>(in_range, bytes, |b| {
+            b[0] = 3;
+            words(b, 1, [self.length]);
+            words(b, 5, r);
+            words(b, 21, shears);
+        })
+    }
+}
+
+impl Plain for Beam {
+    #[inline(never)]
+    fn write_plainly(self, bytes: &mut [u8]) -> WriteAnswer {
+        let r = [self.r1_plus, self.r2_plus, self.r1_minus, self.r2_minus];
+        let in_range = (500..=100_000).contains(&self.length)
+            && amounts(r)
+            && loads([self.v0])
+            && amounts([self.ve, self.vr]);
+        put::<33>(in_range, bytes, |b| {
+            b[0] = 4;
+            words(b, 1, [self.length]);
+            words(b, 5, r);
+            words(b, 21, [self.v0 as u32, self.ve, self.vr]);
+        })
+    }
+}
+
+impl Plain for Hingeless {
+    #[inline(never)]
+    fn write_plainly(self, bytes: &mut [u8]) -> WriteAnswer {
+        let in_range = (500..=100_000).contains(&self.length)
+            && self.id1 <= 255
+            && self.id2 <= 255
+            && amounts([self.me1, self.me2, self.vr])
+            && loads([self.v0]);
+        put::<23>(in_range, bytes, |b| {
+            b[0] = 5;
+            words(b, 1, [self.length]);
+            b[5] = self.id1 as u8;
+            b[6] = self.id2 as u8;
+            words(b, 7, [self.me1, self.me2, self.v0 as u32, self.vr]);
+        })
+    }
+}
+
+impl Plain for WallBase {
+    #[inline(never)]
+    fn write_plainly(self, bytes: &mut [u8]) -> WriteAnswer {
+        let side = 100..=10_000;
+        let loads = [self.mr, self.me, self.ve, self.vr];
+        let in_range =
+            side.contains(&self.length) && side.contains(&self.thickness) && amounts(loads);
+        put::<25>(in_range, bytes, |b| {
+            b[0] = 6;
+            words(b, 1, [self.length, self.thickness]);
+            words(b, 9, loads);
+        })
+    }
+}
+
+impl Plain for Storey {
+    #[inline(never)]
+    fn write_plainly(self, bytes: &mut [u8]) -> WriteAnswer {
+        let in_range =
+            amounts([self.me, self.ve, self.vr, self.ms]) && 1 <= self.j && self.j <= self.j0;
+        put::<25>(in_range, bytes, |b| {
+            b[0] = 7;
+            words(b, 1, [self.me, self.ve, self.j, self.j0, self.vr, self.ms]);
+        })
+    }
+}
+
+impl Plain for Soil {
+    #[inline(never)]
+    fn write_plainly(self, bytes: &mut [u8]) -> WriteAnswer {
+        let top = if self.kind == 0 { 2.0 } else { 1000.0 };
+        let allowed = self.value.is_sign_positive() && self.value <= top;
+        let in_range = self.kind <= 1 && allowed && self.sensitive <= 1;
+        put::<7>(in_range, bytes, |b| {
+            b[0] = 8;
+            b[1] = self.kind as u8;
+            words(b, 2, [self.value.to_bits()]);
+            b[6] = self.sensitive as u8;
+        })
+    }
+}
+
+impl Plain for Footing {
+    #[inline(never)]
+    fn write_plainly(self, bytes: &mut [u8]) -> WriteAnswer {
+        let side = 500..=20_000;
+        let actions = [
+            self.nv, self.ne, self.xv, self.xe, self.yv, self.ye, self.hv, self.he,
+        ];
+        let in_range = side.contains(&self.b)
+            && side.contains(&self.l)
+            && amounts([self.mr, self.me, self.u, self.p])
+            && loads(actions)
+            && self.flags <= 3;
+        put::<58>(in_range, bytes, |b| {
+            b[0] = 9;
+            words(b, 1, [self.b, self.l, self.mr, self.me]);
+            words(b, 17, actions.map(|load| load as u32));
+            words(b, 49, [self.u, self.p]);
+            b[57] = self.flags as u8;
+        })
+    }
+}
+
+impl Plain for Detail {
+    #[inline(never)]
+    fn write_plainly(self, bytes: &mut [u8]) -> WriteAnswer {
+        let in_range = self.place <= 2
+            && self.xu <= 1000
+            && self.xy <= 1000
+            && (1000..=2000).contains(&self.mu)
+            && self.lap <= 1;
+        put::<9>(in_range, bytes, |b| {
+            b[0] = 10;
+            b[1] = self.place as u8;
+            halves(b, 2, [self.xu, self.xy, self.mu]);
+            b[8] = self.lap as u8;
+        })
+    }
+}

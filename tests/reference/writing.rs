@@ -1,0 +1,148 @@
+//! Request No. 2 of document 02: one command written from its values; and the commands that bytes hold, by their values.
+//! Assumes that a command to be written is one of 00 to 0A and has as many values as document 01 gives it operands.
+
+#![allow(dead_code)]
+
+use super::*;
+
+/// A command's byte and its values in the order of the file; a soil value is given by its 32 bits.
+#[derive(Clone, Debug, PartialEq, Eq)]
+pub struct Command {
+    pub code: u8,
+    pub values: Vec<i64>,
+}
+
+/// What a write answers: the refusal or 0, the offset, the bytes written.
+#[derive(Clone, Copy, Debug, Default, PartialEq, Eq)]
+pub struct Written {
+    pub number: u32,
+    pub offset: usize,
+    pub bytes: usize,
+}
+
+/// An operand: its bytes, and the least and the greatest number in range.
+type Operand = (usize, i64, i64);
+
+const LIMIT: i64 = 100_000_000;
+const AMOUNT: Operand = (4, 0, LIMIT);
+const SIGNED: Operand = (4, -LIMIT, LIMIT);
+const LENGTH: Operand = (4, 500, 100_000);
+const SECTION: Operand = (4, 100, 10_000);
+const SIDE: Operand = (4, 500, 20_000);
+const INERTIA: Operand = (4, 1, u32::MAX as i64);
+const OVERSTRENGTH: Operand = (2, 100, 200);
+const DEPTH: Operand = (2, 0, 1000);
+const ID: Operand = (1, 0, 255);
+const YES_NO: Operand = (1, 0, 1);
+/// By its bits; which of them are in range is told by the soil's kind.
+const SOIL_VALUE: Operand = (4, 0, u32::MAX as i64);
+
+/// The operands of a command in the order of the file.
+pub fn layout(code: u8) -> Vec<Operand> {
+    match code {
+        END => vec![],
+        SETTINGS => vec![(2, 100, 400), OVERSTRENGTH, OVERSTRENGTH],
+        JOINT => vec![ID, AMOUNT, AMOUNT, AMOUNT],
+        COLUMN => [vec![LENGTH], vec![AMOUNT; 6]].concat(),
+        BEAM => [vec![LENGTH], vec![AMOUNT; 4], vec![SIGNED, AMOUNT, AMOUNT]].concat(),
+        NO_HINGES => vec![LENGTH, ID, ID, AMOUNT, AMOUNT, SIGNED, AMOUNT],
+        WALL_BASE => [vec![SECTION; 2], vec![AMOUNT; 4]].concat(),
+        STOREY => vec![AMOUNT, AMOUNT, INERTIA, INERTIA, AMOUNT, AMOUNT],
+        SOIL => vec![YES_NO, SOIL_VALUE, YES_NO],
+        FOOTING => [
+            vec![SIDE, SIDE, AMOUNT, AMOUNT],
+            vec![SIGNED; 8],
+            vec![AMOUNT, AMOUNT, (1, 0, 3)],
+        ]
+        .concat(),
+        DETAIL => vec![(1, 0, 2), DEPTH, DEPTH, (2, 1000, 2000), YES_NO],
+        _ => unreachable!("a command of 00 to 0A"),
+    }
+}
+
+impl Command {
+    /// The place of the value at fault: the first out of range; where each is within its own, J of a storey whose J is above J0,
+    /// or the value of a soil that its kind does not allow.
+    pub fn at_fault(&self) -> Option<usize> {
+        let layout = layout(self.code);
+        assert_eq!(self.values.len(), layout.len(), "a value an operand");
+        let mut pairs = self.values.iter().zip(layout);
+        let outside = pairs.position(|(value, (_, least, most))| *value < least || most < *value);
+        outside.or(match (self.code, &self.values[..]) {
+            (STOREY, [_, _, j, j0, ..]) if j > j0 => Some(2),
+            (SOIL, &[kind, bits, _]) if soil_at_fault(kind, bits) => Some(1),
+            _ => None,
+        })
+    }
+
+    /// The command's byte, then each value big-endian in its width; of a command in range.
+    fn bytes(&self) -> Vec<u8> {
+        let mut bytes = vec![self.code];
+        for (value, (width, ..)) in self.values.iter().zip(layout(self.code)) {
+            bytes.extend(&value.to_be_bytes()[8 - width..]);
+        }
+        bytes
+    }
+}
+
+fn soil_at_fault(kind: i64, bits: i64) -> bool {
+    take_down(kind as u8, f32::from_bits(bits as u32)).is_err()
+}
+
+/// Writes a command to the first bytes and tells how many it has; on a refusal nothing is written.
+pub fn write_command(command: &Command, bytes: &mut [u8]) -> Written {
+    let refused = |number| Written {
+        number,
+        ..Written::default()
+    };
+    if command.at_fault().is_some() {
+        return refused(5);
+    }
+    let written = command.bytes();
+    let Some(room) = bytes.get_mut(..written.len()) else {
+        return refused(11);
+    };
+    room.copy_from_slice(&written);
+    Written {
+        bytes: written.len(),
+        ..Written::default()
+    }
+}
+
+/// The commands that bytes begin with, each with its offset, up to the end and with it; as far as they can be read.
+pub fn commands(bytes: &[u8]) -> Vec<(usize, Command)> {
+    let mut commands = Vec::new();
+    let mut at = 0;
+    while let Some(command) = read_command(&bytes[at..]) {
+        let code = command.code;
+        commands.push((at, command));
+        if code == END {
+            break;
+        }
+        at += 1 + width(code).expect("a known command");
+    }
+    commands
+}
+
+/// The command that bytes begin with, as the checks read it; none where it is unknown or cut short.
+pub fn read_command(bytes: &[u8]) -> Option<Command> {
+    let (&code, rest) = bytes.split_first()?;
+    let operands = rest.get(..width(code)?)?;
+    let values = match code {
+        END => vec![],
+        SETTINGS => Settings::read(fixed(operands)).values(),
+        JOINT => {
+            let (id, joint) = Joint::read(fixed(operands));
+            [vec![id as i64], joint.values()].concat()
+        }
+        COLUMN => Column::read(fixed(operands)).values(),
+        BEAM => Beam::read(fixed(operands)).values(),
+        NO_HINGES => NoHinges::read(fixed(operands)).values(),
+        WALL_BASE => WallBase::read(fixed(operands)).values(),
+        STOREY => Storey::read(fixed(operands)).values(),
+        SOIL => SoilGiven::read(fixed(operands)).values(),
+        FOOTING => Footing::read(fixed(operands)).values(),
+        _ => Detail::read(fixed(operands)).values(),
+    };
+    Some(Command { code, values })
+}

@@ -1,0 +1,248 @@
+//! Compares the proved library with the reference in writing commands: random values and room, with guard bytes around the bytes lent.
+//! What is written is read back by the reference, command by command and as files of commands written one after the other.
+//! Arguments: commands, seed. Prints `N commands agree`, or the first disagreement. A run of 100,000 commands or more fails too when
+//! one of the cases that `wanted` lists was met fewer than ten times.
+//! Assumes nothing. Built by tests/run.
+
+#![allow(dead_code)]
+
+mod generate;
+mod library;
+mod reference;
+
+use generate::Random;
+use library::write::write_command;
+use reference::{Command, Written};
+use std::collections::BTreeMap;
+
+/// Bytes before and after those that a call is lent.
+const GUARD: usize = 64;
+
+/// Commands among which each case is met often enough, and how often that is.
+const MANY: u64 = 100_000;
+const OFTEN: u64 = 10;
+
+/// The commands by their bytes.
+const CODES: std::ops::RangeInclusive<u8> = 0..=10;
+const SOIL: u8 = 8;
+
+fn main() {
+    let arguments: Vec<u64> = std::env::args()
+        .skip(1)
+        .map(|text| text.parse().expect("a number"))
+        .collect();
+    let argument = |place: usize, usual: u64| arguments.get(place).copied().unwrap_or(usual);
+    let commands = argument(0, MANY);
+    let mut random = Random::new(argument(1, 1));
+    let mut met = BTreeMap::new();
+    for number in 0..commands {
+        if let Err(words) = compare(&mut random, number, &mut met) {
+            println!("command {number} disagrees: {words}");
+            std::process::exit(1);
+        }
+    }
+    let seldom: Vec<String> = wanted()
+        .into_iter()
+        .filter(|case| met.get(case).is_none_or(|&times| times < OFTEN))
+        .collect();
+    if commands >= MANY && !seldom.is_empty() {
+        println!("met fewer than {OFTEN} times: {}", seldom.join(", "));
+        std::process::exit(1);
+    }
+    eprintln!("{} cases met; the rarest {:?}", met.len(), rarest(&met));
+    println!("{commands} commands agree");
+}
+
+fn rarest(met: &BTreeMap<String, u64>) -> Option<(&String, &u64)> {
+    met.iter().min_by_key(|(_, &times)| times)
+}
+
+/// A command of each kind in turn; with every twentieth a file of commands.
+fn compare(
+    random: &mut Random,
+    number: u64,
+    met: &mut BTreeMap<String, u64>,
+) -> Result<(), String> {
+    let code = (number % 11) as u8;
+    let command = generate::command(random, code);
+    let width = width(code);
+    let room = match random.below(8) {
+        0 => 0,
+        1 | 2 => width - 1,
+        3 | 4 => width,
+        5 => random.below(width as u64) as usize,
+        _ => width + 1 + random.below(70) as usize,
+    };
+    one(random, &command, room).map_err(|words| format!("{command:x?}, room {room}: {words}"))?;
+    for case in cases(&command, room) {
+        *met.entry(case).or_default() += 1;
+    }
+    if number % 20 == 0 {
+        file(random)?;
+    }
+    Ok(())
+}
+
+/// The bytes of a command, its byte counted.
+fn width(code: u8) -> usize {
+    1 + reference::layout(code)
+        .iter()
+        .map(|(width, ..)| width)
+        .sum::<usize>()
+}
+
+fn same<T: PartialEq + std::fmt::Debug>(what: &str, found: &T, expected: &T) -> Result<(), String> {
+    if found == expected {
+        Ok(())
+    } else {
+        Err(format!("{what} {found:x?}, expected {expected:x?}"))
+    }
+}
+
+/// Writes a command in both implementations: the answer and every byte of the stretch, guards too, must be the same. What was written
+/// is read back to the same values.
+fn one(random: &mut Random, command: &Command, room: usize) -> Result<(), String> {
+    let before = generate::noise(random, room + 2 * GUARD);
+    let [mut found, mut expected] = [before.clone(), before];
+    let lent = GUARD..GUARD + room;
+    let answer = write_command(command, &mut found[lent.clone()]);
+    let wanted = reference::write_command(command, &mut expected[lent.clone()]);
+    same("answer", &answer, &wanted)?;
+    same("bytes, guards too,", &found, &expected)?;
+    if answer.number == 0 {
+        let read = reference::read_command(&found[lent]);
+        same("read back", &read.as_ref(), &Some(command))?;
+    }
+    Ok(())
+}
+
+/// Writes commands one after the other, of which the refused ones change nothing, and an end; in a stretch that may be too short for
+/// them all. Read back, they are the commands that were accepted, each at the offset at which it was written.
+fn file(random: &mut Random) -> Result<(), String> {
+    let length = random.between(1, 1000) as usize;
+    let mut bytes = generate::noise(random, length);
+    let mut at = 0;
+    let mut accepted = Vec::new();
+    for _ in 0..random.below(40) {
+        let code = random.between(1, 10) as u8;
+        let command = generate::command(random, code);
+        let answer = write_command(&command, &mut bytes[at..length - 1]);
+        if answer.number == 0 {
+            accepted.push((at, command));
+        }
+        at += answer.bytes;
+    }
+    let end = Command {
+        code: 0,
+        values: vec![],
+    };
+    let answer = write_command(&end, &mut bytes[at..]);
+    let one = Written {
+        bytes: 1,
+        ..Written::default()
+    };
+    same("the answer of the end", &answer, &one)?;
+    accepted.push((at, end));
+    same("a file", &reference::commands(&bytes), &accepted)
+}
+
+// The cases.
+
+fn case(code: u8, text: impl std::fmt::Display) -> String {
+    format!("{code:02X} {text}")
+}
+
+/// What a command with its room is a case of.
+fn cases(command: &Command, room: usize) -> Vec<String> {
+    let (code, width) = (command.code, width(command.code));
+    let mut cases = Vec::new();
+    match command.at_fault() {
+        Some(place) => {
+            cases.push(case(code, format!("operand {place} at fault")));
+            cases.push(case(code, format!("5, {}", how_much(room, width))));
+            if cut(command).at_fault().is_none() {
+                cases.push(case(code, format!("operand {place} too wide alone")));
+            }
+        }
+        None => {
+            let outcome = if room < width { "11" } else { "accepted" };
+            cases.push(case(code, format!("{outcome}, {}", how_much(room, width))));
+            for (place, value) in command.values.iter().enumerate() {
+                if *value < 0 {
+                    cases.push(case(code, format!("operand {place} below zero")));
+                }
+            }
+        }
+    }
+    if code == SOIL && command.values[0] <= 1 {
+        let value = f32::from_bits(command.values[1] as u32);
+        let sign = if value.is_sign_negative() { "-" } else { "+" };
+        cases.push(case(code, format!("{sign}{:?}", value.classify())));
+    }
+    cases
+}
+
+fn how_much(room: usize, width: usize) -> &'static str {
+    match room {
+        _ if room == width => "exact room",
+        _ if room > width => "more room",
+        _ if room + 1 == width => "one byte short",
+        _ => "shorter",
+    }
+}
+
+/// A command with each value cut to the width that it has in the file.
+fn cut(command: &Command) -> Command {
+    let layout = reference::layout(command.code);
+    let pairs = command.values.iter().zip(layout);
+    Command {
+        code: command.code,
+        values: pairs
+            .map(|(value, (width, ..))| {
+                if width < 4 {
+                    value % (1 << (8 * width))
+                } else {
+                    *value
+                }
+            })
+            .collect(),
+    }
+}
+
+/// The cases that must be met.
+fn wanted() -> Vec<String> {
+    let mut wanted = Vec::new();
+    for code in CODES {
+        for (place, (width, least, _)) in reference::layout(code).into_iter().enumerate() {
+            wanted.push(case(code, format!("operand {place} at fault")));
+            if width < 4 {
+                wanted.push(case(code, format!("operand {place} too wide alone")));
+            }
+            if least < 0 {
+                wanted.push(case(code, format!("operand {place} below zero")));
+            }
+        }
+        for outcome in [
+            "accepted, exact room",
+            "accepted, more room",
+            "11, one byte short",
+        ] {
+            wanted.push(case(code, outcome));
+        }
+        if code != 0 {
+            for outcome in [
+                "11, shorter",
+                "5, exact room",
+                "5, more room",
+                "5, one byte short",
+                "5, shorter",
+            ] {
+                wanted.push(case(code, outcome));
+            }
+        }
+    }
+    for sort in ["Zero", "Subnormal", "Normal", "Infinite", "Nan"] {
+        wanted.extend(["+", "-"].map(|sign| case(SOIL, format!("{sign}{sort}"))));
+    }
+    wanted
+}
