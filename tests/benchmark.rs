@@ -1,7 +1,7 @@
 //! Times the proved library against the reference, both built for release, on the same jobs in one process with warm buffers; in
-//! writing commands against plain Rust (tests/plain.rs), on the same values, each command behind the last.
-//! Arguments: rounds, of which the best counts; one call, where not all are wanted (run, size, fault, total, take-down, write). Prints
-//! tables in markdown: ns a command (a row, a value) of both, and the ratio.
+//! writing commands and printing pages against plain Rust (tests/plain.rs), on the same values, each command behind the last.
+//! Arguments: rounds, of which the best counts; one call, where not all are wanted (run, size, fault, total, take-down, write, page).
+//! Prints tables in markdown: ns a command (a row, a value) of both, and the ratio.
 //! Assumes nothing. After `rt staticlib capacity_c`, built at the root of the repository by
 //! rustc --edition 2021 -O -L target/staticlib -o target/tests/benchmark tests/benchmark.rs.
 
@@ -40,6 +40,17 @@ const CALLS: [(&str, &str, Both); 4] = [
     ("total", "row", total),
 ];
 
+/// The rows of a page, and the most.
+const PAGES: [usize; 4] = [10, 100, 1024, 4096];
+const PRINTED: usize = 4096;
+
+/// The rows that are printed: those of jobs, rows with each value 0, rows with each value as wide as it may be.
+const PRINTS: [(&str, fn() -> Vec<i64>); 3] = [
+    ("even mix", mixed_rows),
+    ("zeros", || vec![0; 8 * PRINTED]),
+    ("widest", widest_rows),
+];
+
 /// The commands written one after the other.
 const WRITTEN: usize = 1000;
 
@@ -66,8 +77,8 @@ fn main() {
     let picked = arguments.next();
     let wanted = |call: &str| picked.as_deref().is_none_or(|name| name == call);
     let calls = CALLS.iter().map(|(call, ..)| *call);
-    if !calls.chain(["take-down", "write"]).any(wanted) {
-        eprintln!("the calls are run, size, fault, total, take-down, write");
+    if !calls.chain(["take-down", "write", "page"]).any(wanted) {
+        eprintln!("the calls are run, size, fault, total, take-down, write, page");
         std::process::exit(2);
     }
     for (call, unit, both) in CALLS.into_iter().filter(|(call, ..)| wanted(call)) {
@@ -89,6 +100,16 @@ fn main() {
         println!("\n| write, ns a command | commands | library | plain Rust | ratio |\n|---|---:|---:|---:|---:|");
         for (kind, code, both) in WRITES {
             print(kind, &WRITTEN.to_string(), both(rounds, code));
+        }
+    }
+    if wanted("page") {
+        println!(
+            "\n| page, ns a row | rows | library | plain Rust | ratio |\n|---|---:|---:|---:|---:|"
+        );
+        for (kind, words) in PRINTS {
+            for rows in PAGES {
+                print(kind, &rows.to_string(), page(rounds, &words(), rows));
+            }
         }
     }
 }
@@ -242,6 +263,50 @@ fn one_after_the_other<C: Copy>(
         at += write(*value, &mut bytes[at..]).bytes;
     }
     keep(at);
+}
+
+/// The rows of jobs of an even mix.
+fn mixed_rows() -> Vec<i64> {
+    let mut random = Random::new(1);
+    let mut words = Vec::new();
+    while words.len() < 8 * PRINTED {
+        let job = generate::valid(&mut random, 1000, &Mix::EVEN);
+        let mut rows = vec![0; 8 * reference::size(&job).expect("an accepted job")];
+        reference::run(&job, &mut rows).expect("an accepted job");
+        words.extend(rows);
+    }
+    words.truncate(8 * PRINTED);
+    words
+}
+
+fn widest_rows() -> Vec<i64> {
+    let limits: Vec<i64> = (0..8)
+        .map(|place| generate::rows::limits(place)[place % 2])
+        .collect();
+    limits.repeat(PRINTED)
+}
+
+/// Of pages of so many rows each, into a buffer of its own for each of the two.
+fn page(rounds: usize, words: &[i64], rows: usize) -> [f64; 2] {
+    let pages: Vec<&[i64]> = words.chunks_exact(8 * rows).collect();
+    let mut bytes = vec![0; 82 * rows];
+    let mut other = bytes.clone();
+    let ns = race(
+        rounds,
+        pages.len() * rows,
+        || {
+            pages
+                .iter()
+                .for_each(|page| keep(library::page(black_box(page), rows, &mut bytes)))
+        },
+        || {
+            pages
+                .iter()
+                .for_each(|page| keep(plain::page(black_box(page), rows, &mut other)))
+        },
+    );
+    assert_eq!(bytes, other, "the bytes of the two pages");
+    ns
 }
 
 /// Lets no result be left out.

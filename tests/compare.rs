@@ -1,21 +1,20 @@
 //! Compares the proved library with the reference on random jobs: size, fault, run, total and take-down, with guard words around
-//! the rows; and writes each command of each accepted job again. Arguments: jobs, seed. Prints `N jobs agree`, or the first
-//! disagreement with its job in hexadecimal. A run of 100,000 jobs or more fails too when an operand was never at fault, or when fewer
-//! than a tenth of the jobs are accepted ones with a joint revised between members.
+//! the rows; writes each command of each accepted job again, and prints the page of its rows. Arguments: jobs, seed. Prints `N jobs
+//! agree`, or the first disagreement with its job in hexadecimal. A run of 100,000 jobs or more fails too when an operand was never at
+//! fault, when fewer than a tenth of the jobs are accepted ones with a joint revised between members, or when no page had a form feed.
 //! Assumes nothing. Built by tests/run.
 
 mod generate;
 mod library;
 mod reference;
+mod rounds;
 
 use generate::{Mix, Random};
 use reference::{Fault, Refusal, ROW};
+use rounds::MANY;
 
 /// Words before and after the rows that a call is lent.
 const GUARD: usize = 16;
-
-/// Jobs among which every operand that has a range is at fault at least once.
-const MANY: u64 = 100_000;
 
 /// The number of operands of each command, from 00 to 0A.
 const OPERANDS: [usize; 11] = [0, 3, 4, 7, 8, 7, 6, 6, 3, 15, 5];
@@ -24,13 +23,8 @@ const OPERANDS: [usize; 11] = [0, 3, 4, 7, 8, 7, 6, 6, 3, 15, 5];
 const IDS: [(usize, usize); 3] = [(2, 0), (5, 1), (5, 2)];
 
 fn main() {
-    let arguments: Vec<u64> = std::env::args()
-        .skip(1)
-        .map(|text| text.parse().expect("a number"))
-        .collect();
-    let argument = |place: usize, usual: u64| arguments.get(place).copied().unwrap_or(usual);
-    let jobs = argument(0, 100_000);
-    let mut random = Random::new(argument(1, 1));
+    let (jobs, seed) = rounds::arguments();
+    let mut random = Random::new(seed);
     let mut tally = Tally::default();
     for number in 0..jobs {
         let job = draw(&mut random, number);
@@ -50,6 +44,10 @@ fn main() {
         println!("a joint revised in {} of {jobs} jobs", tally.revised);
         std::process::exit(1);
     }
+    if jobs >= MANY && tally.feeds == 0 {
+        println!("no page had a form feed");
+        std::process::exit(1);
+    }
     println!("{jobs} jobs agree");
 }
 
@@ -62,6 +60,9 @@ struct Tally {
     revised: u64,
     /// Commands of accepted jobs that were written again.
     written: u64,
+    /// Pages of accepted jobs, and those with a form feed.
+    printed: u64,
+    feeds: u64,
     /// By number, from 1 to 9.
     refused: [u64; 10],
     /// Jobs by the command and the operand at fault.
@@ -95,8 +96,8 @@ impl std::fmt::Display for Tally {
     fn fmt(&self, out: &mut std::fmt::Formatter) -> std::fmt::Result {
         write!(
             out,
-            "{} accepted with {} rows; a joint revised in {} jobs; {} commands written again; refused",
-            self.accepted, self.rows, self.revised, self.written
+            "{} accepted with {} rows; a joint revised in {} jobs; {} commands written again; {} pages, {} with form feeds; refused",
+            self.accepted, self.rows, self.revised, self.written, self.printed, self.feeds
         )?;
         (1..10).try_for_each(|number| write!(out, " {number}: {}", self.refused[number]))
     }
@@ -172,8 +173,10 @@ fn compare(random: &mut Random, job: &[u8], tally: &mut Tally) -> Result<(), Str
     same("fault", &library::fault(job), &fault)?;
     tally.fault(&fault);
     tally.revised += u64::from(size.is_ok() && generate::revised_between_members(job));
-    if size.is_ok() {
+    if let Ok(rows) = size {
         tally.written += written_again(job)?;
+        tally.printed += 1;
+        tally.feeds += u64::from(printed(job, rows)?);
     }
     let needed = size.unwrap_or(random.below(12) as usize);
     let long = ROW * needed + random.below(20) as usize;
@@ -208,6 +211,24 @@ fn written_again(job: &[u8]) -> Result<u64, String> {
         same("bytes written again", &bytes, &job[*at..end].to_vec())?;
     }
     Ok(commands.len() as u64)
+}
+
+/// Prints the rows of an accepted job into as many bytes as its page has: it is not refused, and is the reference's page. Tells whether
+/// it has a form feed.
+fn printed(job: &[u8], rows: usize) -> Result<bool, String> {
+    let mut words = vec![0; ROW * rows];
+    let _ = reference::run(job, &mut words);
+    let mut expected = vec![0xA5; 81 * rows + rows.saturating_sub(1) / 50];
+    let mut found = expected.clone();
+    let answer = library::page(&words, rows, &mut found);
+    same("number of the page", &answer.number, &0)?;
+    same(
+        "page",
+        &answer,
+        &reference::page(&words, rows, &mut expected),
+    )?;
+    same("bytes of the page", &found, &expected)?;
+    Ok(found.contains(&0x0C))
 }
 
 /// Runs a job on so many words that hold random values, with guards before and after them, in both implementations: every

@@ -1,11 +1,12 @@
 //! Pseudo-random jobs of documents 01 and 02: valid ones, with joints given again too, ones with strengths at the demand, ones with
-//! operands out of range, damaged ones, noise; and single commands by their values.
+//! operands out of range, damaged ones, noise; single commands by their values; and words of rows.
 //! Assumes nothing; the same seed gives the same jobs.
 
 #![allow(dead_code, unused_imports)]
 
 mod commands;
 mod faults;
+pub mod rows;
 mod values;
 
 use crate::reference::{run, size, ROW};

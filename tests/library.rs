@@ -3,7 +3,7 @@
 
 pub mod write;
 
-use crate::reference::{Fault, Refusal, Totals};
+use crate::reference::{Fault, Printed, Refusal, Totals};
 
 #[repr(C)]
 struct JobAnswer {
@@ -37,6 +37,14 @@ struct SoilAnswer {
     value: u32,
 }
 
+#[repr(C)]
+struct PageAnswer {
+    number: u32,
+    offset: usize,
+    rows: usize,
+    bytes: usize,
+}
+
 #[link(name = "capacity_c", kind = "static")]
 extern "C" {
     fn eak_size(job: *const u8, job_bytes: usize) -> JobAnswer;
@@ -44,6 +52,13 @@ extern "C" {
     fn eak_run(job: *const u8, job_bytes: usize, rows: *mut i64, row_words: usize) -> JobAnswer;
     fn eak_total(rows: *const i64, row_words: usize, n: usize) -> TotalsAnswer;
     fn eak_take_down(kind: u8, value: f32) -> SoilAnswer;
+    fn eak_page(
+        rows: *const i64,
+        row_words: usize,
+        n: usize,
+        bytes: *mut u8,
+        room: usize,
+    ) -> PageAnswer;
 }
 
 /// The result, or the refusal with its number, offset and rows; no other field may be set.
@@ -117,4 +132,16 @@ pub fn take_down(kind: u8, value: f32) -> Result<u32, Refusal> {
     let found = unsafe { eak_take_down(kind, value) };
     let unset = found.offset == 0 && (found.number == 0 || found.value == 0);
     answer(found.value, unset, found.number, found.offset as usize, 0)
+}
+
+#[inline(always)]
+pub fn page(rows: &[i64], n: usize, bytes: &mut [u8]) -> Printed {
+    let (words, room) = (rows.len(), bytes.len());
+    let found = unsafe { eak_page(rows.as_ptr(), words, n, bytes.as_mut_ptr(), room) };
+    Printed {
+        number: found.number,
+        offset: found.offset,
+        rows: found.rows,
+        bytes: found.bytes,
+    }
 }

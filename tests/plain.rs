@@ -1,10 +1,12 @@
-//! Plain Rust that writes a command as the library's calls do, for the benchmark: the range test, the room, the bytes.
+//! Plain Rust that does what the library's calls do, for the benchmark: writes a command (the range test, the room, the bytes) and prints
+//! a page (the words, the widths, the room, the bytes).
 //! Assumes nothing. A function is never inlined, as a call of the library cannot be, so that both pay for a call.
 
 use crate::library::write::{
     Beam, Column, Detail, End, Footing, Hingeless, Joint, Settings, Soil, Storey, Values, WallBase,
     WriteAnswer,
 };
+use crate::reference::Printed;
 
 const LIMIT: u32 = 100_000_000;
 
@@ -218,4 +220,86 @@ impl Plain for Detail {
             b[8] = self.lap as u8;
         })
     }
+}
+
+// The page.
+
+/// Where the field of each word ends in its line.
+const ENDS: [usize; 8] = [7, 10, 23, 36, 49, 62, 75, 80];
+
+/// The least and the greatest value that fit the field of each word with a blank before them.
+const FITTING: [(i64, i64); 8] = {
+    let wide = (-99_999_999_999, 999_999_999_999);
+    let offset = (-99_999, 999_999);
+    [
+        offset,
+        (-9, 99),
+        wide,
+        wide,
+        wide,
+        wide,
+        wide,
+        (-999, 9_999),
+    ]
+};
+
+/// Prints the first n rows; on a refusal nothing is written.
+#[inline(never)]
+pub fn page(rows: &[i64], n: usize, bytes: &mut [u8]) -> Printed {
+    let refused = |number, rows| Printed {
+        number,
+        offset: 0,
+        rows,
+        bytes: 0,
+    };
+    let Some(rows) = rows.as_chunks::<8>().0.get(..n) else {
+        return refused(9, n);
+    };
+    if !rows.iter().all(fits) {
+        return refused(12, 0);
+    }
+    let length = 81 * n + n.saturating_sub(1) / 50;
+    let Some(page) = bytes.get_mut(..length) else {
+        return refused(11, 0);
+    };
+    for (lines, fifty) in page.chunks_mut(50 * 81 + 1).zip(rows.chunks(50)) {
+        let (lines, feed) = lines.as_chunks_mut::<81>();
+        lines
+            .iter_mut()
+            .zip(fifty)
+            .for_each(|(line, row)| set(line, row));
+        feed.fill(0x0C);
+    }
+    Printed {
+        bytes: length,
+        ..Printed::default()
+    }
+}
+
+#[inline(always)]
+fn fits(row: &[i64; 8]) -> bool {
+    let mut pairs = row.iter().zip(FITTING);
+    pairs.all(|(value, (least, most))| (least..=most).contains(value))
+}
+
+/// A line: blanks, then each value from its last digit to its first, and the minus.
+#[inline(always)]
+fn set(line: &mut [u8; 81], row: &[i64; 8]) {
+    line.fill(b' ');
+    for (&value, end) in row.iter().zip(ENDS) {
+        let mut at = end;
+        let mut left = value.unsigned_abs();
+        loop {
+            at -= 1;
+            line[at] = b'0' + (left % 10) as u8;
+            left /= 10;
+            if left == 0 {
+                break;
+            }
+        }
+        if value < 0 {
+            line[at - 1] = b'-';
+        }
+    }
+    line[80] = b'\n';
 }

@@ -1,10 +1,11 @@
-//! Document 01 with requests No. 1 and 2 of document 02 in plain Rust: size, run, total, take-down and writing a command, written
-//! from the papers; and the operand at fault.
+//! Document 01 with requests No. 1 to 3 of document 02 in plain Rust: size, run, total, take-down, writing a command and printing a
+//! page, written from the papers; and the operand at fault.
 //! Assumes nothing of the job's bytes, the rows or the number of rows.
 
 mod footing;
 mod members;
 mod operands;
+mod printing;
 #[cfg(test)]
 mod tests;
 mod writing;
@@ -12,6 +13,8 @@ mod writing;
 use footing::{Footing, Soil, SoilGiven};
 use members::{Beam, Column, Detail, Joint, NoHinges, Settings, Storey, Wall, WallBase};
 use operands::Operands;
+#[allow(unused_imports)]
+pub use printing::{page, Printed, WIDTHS};
 #[allow(unused_imports)]
 pub use writing::{commands, layout, read_command, write_command, Command, Written};
 

@@ -5,7 +5,9 @@ NAME.job. Compares eak_fault with eak_size on each, and on those in docs/FORMAT.
 there. Tries that words after the rows, and in a refusal every word, stay as they were; the version against the header's; calls
 with no elements; two soil values; and the job with the most rows.
 Writes each command of each accepted job again by the eak_write calls and compares the bytes; the structs are read from the header, and
-docs/FORMAT.md must name the same members. Prints what differs; the exit status is 0 only if nothing does. Standard library alone.
+docs/FORMAT.md must name the same members. Prints the rows of each accepted job, and 101 others, by eak_page and compares the page with
+the same rows set in columns here; the columns and the values that they take are those of the document's table.
+Prints what differs; the exit status is 0 only if nothing does. Standard library alone.
 """
 import ctypes
 import re
@@ -14,6 +16,9 @@ import sys
 from struct import unpack_from
 
 WORDS, LENT, AS_LENT = 8, 8192, 0x5A5A5A5A5A5A5A5A
+
+# The columns of the page and the lines before a form feed.
+COLUMNS, LINES = (7, 3, 13, 13, 13, 13, 13, 5), 50
 
 # Commands in range; each operand that may be 0 is 0.
 SETTINGS = bytes.fromhex("01 015E 008C 0078")
@@ -34,6 +39,7 @@ FAULT_ANSWER = struct("u32 number", "size offset", "u32 command", "u32 operand")
 TOTALS_ANSWER = struct("u32 number", "size offset", "size rows", "u64 failed", "u64 checks")
 SOIL_ANSWER = struct("u32 number", "u32 offset", "u32 value")
 WRITE_ANSWER = struct("u32 number", "size offset", "size bytes")
+PAGE_ANSWER = struct("u32 number", "size offset", "size rows", "size bytes")
 BYTES, ROWS, SIZE, LENT_BYTES = ctypes.c_char_p, ctypes.POINTER(ctypes.c_int64), ctypes.c_size_t, ctypes.c_void_p
 
 # Each call of the header: its answer and its parameters. Those that write a command are made from the header's structs.
@@ -45,6 +51,7 @@ CALLS = {
     "eak_total": (TOTALS_ANSWER, [ROWS, SIZE, SIZE]),
     "eak_take_down": (SOIL_ANSWER, [ctypes.c_uint8, ctypes.c_float]),
     "eak_write_end": (WRITE_ANSWER, [LENT_BYTES, SIZE]),
+    "eak_page": (PAGE_ANSWER, [ROWS, SIZE, SIZE, LENT_BYTES, SIZE]),
 }
 
 
@@ -121,6 +128,65 @@ def written(library, commands, job):
     return bytes(lent)
 
 
+def page_of(rows):
+    """The page of rows, each a list of words."""
+    lines = ["".join(str(word).rjust(width) for word, width in zip(row, COLUMNS)) + "\n" for row in rows]
+    return "\f".join("".join(lines[at:at + LINES]) for at in range(0, len(lines), LINES)).encode()
+
+
+def printed(library, rows, room):
+    """The answer of eak_page for rows, and the bytes lent: so many, and a byte more, as lent."""
+    words = (ctypes.c_int64 * (WORDS * len(rows)))(*[word for row in rows for word in row])
+    lent = (ctypes.c_uint8 * (room + 1))(*[0x5A] * (room + 1))
+    answer = library.eak_page(words, len(words), len(rows), lent, room)
+    return values(answer), bytes(lent)
+
+
+def compare_page(library, what, rows, same):
+    page = page_of(rows)
+    same(what, ((0, 0, 0, len(page)), page + b"\x5A"), printed(library, rows, len(page)))
+
+
+def columns():
+    """The columns of the page in the document's table: width, first and last place, least and greatest value."""
+    with open("docs/FORMAT.md", encoding="utf-8") as file:
+        rows = re.findall(r"^\| [0-7](?:, [a-z ]+)? \| (\d+) \| (\d+) to (\d+) \| (?:(\S+) to (\S+)|the same) \|$", file.read(), re.M)
+    whole = []
+    for width, first, last, least, most in rows:
+        limits = [int(text.replace(",", "").replace("−", "-")) for text in (least, most) if text] or whole[-1][3:]
+        whole.append([int(width), int(first), int(last), *limits])
+    return whole
+
+
+def limits_of_columns(library, same):
+    """Each value at a limit is printed at its places, each one beyond it is refused."""
+    described, end = columns(), 0
+    same("the columns", list(COLUMNS), [column[0] for column in described])
+    for word, (width, first, last, least, most) in enumerate(described):
+        same(f"the places of word {word}", (end + 1, end + width), (first, last))
+        end = last
+        for value, number in ((least - 1, 12), (least, 0), (most, 0), (most + 1, 12)):
+            row = [value if place == word else 0 for place in range(WORDS)]
+            answer, page = printed(library, [row], 81)
+            same(f"word {word} at {value}", number, answer[0])
+            if number == 0:
+                same(f"word {word} at {value}", str(value).rjust(width).encode(), page[first - 1:last])
+
+
+def refused_pages(library, same):
+    """Too few words, a number of rows that no words suffice for, a value too wide, too few bytes; no rows."""
+    lent = (ctypes.c_uint8 * 81)(*[0x5A] * 81)
+    row = (ctypes.c_int64 * WORDS)(7, 3, 186667)
+    wide = (ctypes.c_int64 * WORDS)(7, 100)
+    same("a page of a row in seven words", (9, 0, 1, 0), values(library.eak_page(wide, WORDS - 1, 1, lent, 81)))
+    for n in (2 ** 61, 2 ** 64 - 1):
+        same(f"a page of {n} rows", (9, 0, n, 0), values(library.eak_page(row, WORDS, n, lent, 81)))
+    same("a page with word 1 at 100", (12, 0, 0, 0), values(library.eak_page(wide, WORDS, 1, lent, 80)))
+    same("a page in 80 bytes", (11, 0, 0, 0), values(library.eak_page(row, WORDS, 1, lent, 80)))
+    same("a page of no rows", (0, 0, 0, 0), values(library.eak_page(row, 0, 0, lent, 0)))
+    same("the bytes of refused pages", {0x5A}, set(lent))
+
+
 def no_elements(library, same):
     """Calls that are lent no bytes and no words."""
     one = (ctypes.c_int64 * 1)(AS_LENT)
@@ -168,6 +234,9 @@ def main(path, header, jobs):
     same("tangent 2.5", (5, 0, 0), values(library.eak_take_down(0, 2.5)))
     same("the members", {name: [member for member, _ in command._fields_] for name, command in commands.items()}, described())
     refused_writes(library, commands, defined["EAK_COMMAND_BYTES"], same)
+    refused_pages(library, same)
+    limits_of_columns(library, same)
+    compare_page(library, "a page of 101 rows", [[n, 3, 1000 * n, -n, 0, n ** 5, -(n ** 5), n % 4] for n in range(101)], same)
     for name in jobs:
         with open(name, "rb") as file, open(name.removesuffix(".job") + ".out", encoding="utf-8") as out:
             job = file.read()
@@ -178,6 +247,7 @@ def main(path, header, jobs):
             same(f"{name}: words as lent", {AS_LENT}, set(later))
             if fault.number == 0:
                 same(f"{name}: written again", job + b"\x5A", written(library, commands, job))
+                compare_page(library, f"{name}: page", [[int(word) for word in line.split()] for line in found.splitlines()[:-1]], same)
     same("the operands of jobs that were not run", {}, operands)
     print("\n".join(faults) or f"{len(jobs)} jobs agree")
     return 1 if faults or not jobs else 0

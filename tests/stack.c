@@ -13,12 +13,14 @@ static _Alignas(4096) uint8_t stack[STACK];
 static uint8_t job[1 << 20];
 static int64_t rows[8192 * EAK_ROW_WORDS];
 static uint8_t written[EAK_COMMAND_BYTES];
+static uint8_t printed[EAK_PAGE_BYTES(1024)];
 static size_t bytes, kept;
 
 static void size(void) { kept += eak_size(job, bytes).rows; }
 static void fault(void) { kept += eak_fault(job, bytes).number; }
 static void run(void) { kept += eak_run(job, bytes, rows, sizeof rows / sizeof rows[0]).rows; }
 static void total(void) { kept += eak_total(rows, sizeof rows / sizeof rows[0], 1024).rows; }
+static void page(void) { kept += eak_page(rows, sizeof rows / sizeof rows[0], 1024, printed, sizeof printed).bytes; }
 static void take_down(void) { kept += eak_take_down(0, 0.7f).value; }
 static void version(void) { kept += eak_version(); }
 static void write_end(void) { kept += eak_write_end(written, sizeof written).bytes; }
@@ -48,6 +50,7 @@ static const struct {
     {"eak_fault", fault},
     {"eak_run", run},
     {"eak_total", total},
+    {"eak_page", page},
     {"eak_take_down", take_down},
     {"eak_version", version},
     {"eak_write_settings", write_settings},

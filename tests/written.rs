@@ -9,60 +9,35 @@
 mod generate;
 mod library;
 mod reference;
+mod rounds;
 
 use generate::Random;
 use library::write::write_command;
 use reference::{Command, Written};
-use std::collections::BTreeMap;
+use rounds::Met;
 
 /// Bytes before and after those that a call is lent.
 const GUARD: usize = 64;
-
-/// Commands among which each case is met often enough, and how often that is.
-const MANY: u64 = 100_000;
-const OFTEN: u64 = 10;
 
 /// The commands by their bytes.
 const CODES: std::ops::RangeInclusive<u8> = 0..=10;
 const SOIL: u8 = 8;
 
 fn main() {
-    let arguments: Vec<u64> = std::env::args()
-        .skip(1)
-        .map(|text| text.parse().expect("a number"))
-        .collect();
-    let argument = |place: usize, usual: u64| arguments.get(place).copied().unwrap_or(usual);
-    let commands = argument(0, MANY);
-    let mut random = Random::new(argument(1, 1));
-    let mut met = BTreeMap::new();
+    let (commands, seed) = rounds::arguments();
+    let mut random = Random::new(seed);
+    let mut met = Met::default();
     for number in 0..commands {
         if let Err(words) = compare(&mut random, number, &mut met) {
             println!("command {number} disagrees: {words}");
             std::process::exit(1);
         }
     }
-    let seldom: Vec<String> = wanted()
-        .into_iter()
-        .filter(|case| met.get(case).is_none_or(|&times| times < OFTEN))
-        .collect();
-    if commands >= MANY && !seldom.is_empty() {
-        println!("met fewer than {OFTEN} times: {}", seldom.join(", "));
-        std::process::exit(1);
-    }
-    eprintln!("{} cases met; the rarest {:?}", met.len(), rarest(&met));
-    println!("{commands} commands agree");
-}
-
-fn rarest(met: &BTreeMap<String, u64>) -> Option<(&String, &u64)> {
-    met.iter().min_by_key(|(_, &times)| times)
+    met.finish(commands, "commands", wanted());
 }
 
 /// A command of each kind in turn; with every twentieth a file of commands.
-fn compare(
-    random: &mut Random,
-    number: u64,
-    met: &mut BTreeMap<String, u64>,
-) -> Result<(), String> {
+fn compare(random: &mut Random, number: u64, met: &mut Met) -> Result<(), String> {
     let code = (number % 11) as u8;
     let command = generate::command(random, code);
     let width = width(code);
@@ -74,9 +49,7 @@ fn compare(
         _ => width + 1 + random.below(70) as usize,
     };
     one(random, &command, room).map_err(|words| format!("{command:x?}, room {room}: {words}"))?;
-    for case in cases(&command, room) {
-        *met.entry(case).or_default() += 1;
-    }
+    met.add(cases(&command, room));
     if number % 20 == 0 {
         file(random)?;
     }

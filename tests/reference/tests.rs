@@ -1,7 +1,9 @@
-//! Tries the calls where a listing does not show them: short and long slices, the operand at fault, totals, take-down, writing.
+//! Tries the calls where a listing does not show them: short and long slices, the operand at fault, totals, take-down, writing,
+//! printing.
 
 use super::{at_fault, commands, layout, read_command, write_command, Command, Written};
 use super::{fault, run, size, take_down, total, Fault, Refusal, Totals};
+use super::{page, Printed};
 
 /// Settings 350, 140, 120, a detail that passes, one that does not with a lap at a wall base, end.
 const JOB: [u8; 26] = [
@@ -388,4 +390,115 @@ fn commands_have_their_offsets_and_end_with_the_end() {
     assert_eq!(found[2], (16, detail([2, 132, 250, 1000, 1])));
     assert_eq!(found[3..], [(25, end)]);
     assert_eq!(commands(&JOB[..24]).len(), 2);
+}
+
+// Printing a page.
+
+/// The rows of 01's example.
+const ROWS: [i64; 16] = [
+    7, 3, 186_667, 190_000, 0, 0, 0, 0, 36, 4, 150_000, -30_000, 120_000, 0, 0, 1,
+];
+
+/// A row with each value as wide as it may be.
+const WIDEST: [i64; 8] = [
+    999_999,
+    99,
+    999_999_999_999,
+    -99_999_999_999,
+    0,
+    -1,
+    5,
+    9999,
+];
+
+/// The answer, and the bytes lent after the call as a text, each `~` before it.
+fn printed(words: &[i64], n: usize, room: usize) -> (Printed, String) {
+    let mut bytes = vec![b'~'; room];
+    let answer = page(words, n, &mut bytes);
+    (answer, String::from_utf8(bytes).expect("a text"))
+}
+
+fn page_answer(number: u32, rows: usize, bytes: usize) -> Printed {
+    Printed {
+        number,
+        offset: 0,
+        rows,
+        bytes,
+    }
+}
+
+#[test]
+fn a_page_is_printed_and_nothing_else() {
+    let column =
+        "      7  3       186667       190000            0            0            0    0\n";
+    let beam = "     36  4       150000       -30000       120000            0            0    1\n";
+    let two = format!("{column}{beam}");
+    assert_eq!(printed(&ROWS, 2, 162), (page_answer(0, 0, 162), two));
+    let one = format!("{column}~~~");
+    assert_eq!(printed(&ROWS, 1, 84), (page_answer(0, 0, 81), one));
+    let widest =
+        " 999999 99 999999999999 -99999999999            0           -1            5 9999\n";
+    let expected = (page_answer(0, 0, 81), widest.to_string());
+    assert_eq!(printed(&WIDEST, 1, 81), expected);
+    assert_eq!(printed(&[], 0, 0), (page_answer(0, 0, 0), String::new()));
+    assert_eq!(
+        printed(&WIDEST, 0, 2),
+        (page_answer(0, 0, 0), "~~".to_string())
+    );
+}
+
+#[test]
+fn a_form_feed_stands_after_each_fifty_lines_that_a_line_follows() {
+    for (n, feeds) in [(49, 0), (50, 0), (51, 1), (100, 1), (101, 2)] {
+        let (answer, text) = printed(&WIDEST.repeat(n), n, 81 * n + feeds);
+        assert_eq!(answer, page_answer(0, 0, 81 * n + feeds));
+        assert_eq!(text.matches('\x0C').count(), feeds);
+        assert_eq!(text.matches('\n').count(), n);
+        for (place, fifty) in text.split('\x0C').enumerate() {
+            let lines = (n - 50 * place).min(50);
+            assert_eq!(fifty.split_inclusive('\n').count(), lines);
+            assert!(fifty.ends_with('\n'));
+        }
+    }
+}
+
+#[test]
+fn each_value_leaves_a_blank_before_it() {
+    for (place, width) in [7, 3, 13, 13, 13, 13, 13, 5].into_iter().enumerate() {
+        let most = 10i64.pow(width - 1) - 1;
+        let least = -(most / 10);
+        let with = |value| {
+            let mut words = WIDEST;
+            words[place] = value;
+            printed(&words, 1, 81).0
+        };
+        for value in [most, least, 0, -1] {
+            assert_eq!(with(value), page_answer(0, 0, 81));
+        }
+        for value in [most + 1, least - 1, i64::MIN, i64::MAX] {
+            assert_eq!(with(value), page_answer(12, 0, 0));
+        }
+    }
+}
+
+#[test]
+fn nine_then_twelve_then_eleven_and_nothing_is_written() {
+    let mut wide = [WIDEST; 3].concat();
+    wide[9] = 100;
+    for room in [0, 161, 162] {
+        let refused = |number, rows| (page_answer(number, rows, 0), "~".repeat(room));
+        assert_eq!(printed(&wide[..15], 2, room), refused(9, 2));
+        assert_eq!(printed(&wide, 4, room), refused(9, 4));
+        for n in [usize::MAX, 1 << 61, usize::MAX / 8 + 2] {
+            assert_eq!(printed(&wide, n, room), refused(9, n));
+        }
+        assert_eq!(printed(&wide, 2, room), refused(12, 0));
+        assert_eq!(printed(&wide[..16], 2, room), refused(12, 0));
+    }
+    for room in [0, 80] {
+        let refused = (page_answer(11, 0, 0), "~".repeat(room));
+        assert_eq!(printed(&wide, 1, room), refused);
+    }
+    assert_eq!(printed(&wide, 1, 81).0, page_answer(0, 0, 81));
+    assert_eq!(printed(&wide[..15], 1, 81).0, page_answer(0, 0, 81));
 }

@@ -1,11 +1,13 @@
--- Demand 3 for a whole job; what `run` gives twice and on a longer slice; joints given again; jobs and the call
--- `write`; its verdicts at their bounds.
+-- Demand 3 for a whole job; what `run` gives twice and on a longer slice; how large its words are, and their page;
+-- joints given again; jobs and the call `write`; its verdicts at their bounds.
 mod Ranges
 mod RowsTrue
+pub mod RowsSized
 mod Whole
 mod Written
 mod Runs
 pub mod SameWords
+pub mod PageOfRun
 pub mod Revised
 pub mod WrittenAgain
 pub mod Edges

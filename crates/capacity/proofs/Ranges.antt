@@ -9,6 +9,7 @@ use borrow.Author.Tests.{eq-eqb, ne-eqb}
 use Rattle.coefficient.specs.declared.Settings.{Settings}
 use Rattle.members.specs.declared.Joint.{Joint}
 use Rattle.members.specs.Hingeless.{JointRange}
+use Rattle.walls.specs.declared.WallBase.{WallBase}
 use Rattle.format.specs.declared.Command.{Command}
 use Rattle.format.specs.declared.Command.the-variants.{Finish as finish, Settings as settings, Joint as joint, Column as column, Beam as beam, Hingeless as hingeless, WallBase as wallBase, Storey as storey, Soil as soil, Footing as footing, Detail as detail}
 use Rattle.format.specs.Commands.{inRange}
@@ -28,19 +29,24 @@ use Rattle.job.proofs.Simulation.{faultless}
 pub record ContextRange (h : Context) : Type 0 where
   pub settings : (s : Settings) → h .settings ≡ some s → SettingsRange s
   pub joints : (id : ℕ) (j : Joint) → h .joints id ≡ some j → JointRange j
+  pub wall : (b : WallBase) → h .wall ≡ some b → inRange (wallBase b) ≡ true
 
 -- ---- what holds stays in range
 
 nothing-range : ContextRange nothing
 nothing-range =
-    record { settings = λ s e. absurd (Option·none-ne-some s e); joints = λ id j e. absurd (Option·none-ne-some j e) }
+    record {
+      settings = λ s e. absurd (Option·none-ne-some s e);
+      joints = λ id j e. absurd (Option·none-ne-some j e);
+      wall = λ b e. absurd (Option·none-ne-some b e);
+    }
 
 next-range : (h : Context) (c : Command) → ContextRange h → inRange c ≡ true → ContextRange (next h c)
 unfolding next
 next-range h finish r i = r
 next-range h (settings s) r i =
-    record { settings = λ t e. subst SettingsRange (Option·some-injective s t e) (settings-range s i); joints = r .joints }
-next-range h (joint id j) r i = record { settings = r .settings; joints = λ k x e. each k x (ℕ-discrete k id) e }
+    record { settings = λ t e. subst SettingsRange (Option·some-injective s t e) (settings-range s i); joints = r .joints; wall = r .wall }
+next-range h (joint id j) r i = record { settings = r .settings; joints = λ k x e. each k x (ℕ-discrete k id) e; wall = r .wall }
   where
     each : (k : ℕ) (x : Joint) → Dec (k ≡ id) → withJoint id j (h .joints) k ≡ some x → JointRange x
     each k x (yes q) e = subst JointRange (Option·some-injective j x (sym (rw (eq-eqb k id q) refl) ∙ e)) (joint-range id j i)
@@ -48,9 +54,10 @@ next-range h (joint id j) r i = record { settings = r .settings; joints = λ k x
 next-range h (column c) r i = r
 next-range h (beam b) r i = r
 next-range h (hingeless id1 id2 m) r i = r
-next-range h (wallBase b) r i = record { settings = r .settings; joints = r .joints }
+next-range h (wallBase b) r i =
+    record { settings = r .settings; joints = r .joints; wall = λ c e. subst (λ (x : WallBase). inRange (wallBase x) ≡ true) (Option·some-injective b c e) i }
 next-range h (storey s) r i = r
-next-range h (soil s) r i = record { settings = r .settings; joints = r .joints }
+next-range h (soil s) r i = record { settings = r .settings; joints = r .joints; wall = r .wall }
 next-range h (footing f) r i = r
 next-range h (detail d) r i = r
 

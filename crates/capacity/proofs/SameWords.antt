@@ -55,12 +55,12 @@ twice-from : (j : Job) (m : List ℤ) → rowsFrom j (rowsFrom j m) ≡ rowsFrom
 twice-from (refused number offset) m = refl
 twice-from (accepted ps) m = put-twice (joined (allRows ps)) (8 * length (allRows ps)) (size-of ps) m
 
-length-from : (j : Job) (m : List ℤ) → length (rowsFrom j m) ≡ length m
+pub length-from : (j : Job) (m : List ℤ) → length (rowsFrom j m) ≡ length m
 length-from (refused number offset) m = refl
 length-from (accepted ps) m = put-length (joined (allRows ps)) (8 * length (allRows ps)) (size-of ps) m
 
 -- where run accepts, the rows fit
-fits-from : (ps : List Placed) (words : ℕ) → runFrom (accepted ps) words .accepted ≡ true → 8 * length (allRows ps) ≤ words
+pub fits-from : (ps : List Placed) (words : ℕ) → runFrom (accepted ps) words .accepted ≡ true → 8 * length (allRows ps) ≤ words
 fits-from ps words a = by-test (leb (8 * length (allRows ps)) words) refl
   where
     by-test : (b : Bool) → leb (8 * length (allRows ps)) words ≡ b → 8 * length (allRows ps) ≤ words

@@ -1,9 +1,10 @@
-// The calls: size, fault, run, total, take-down and write. None has a `requires`. 01, "Calls"; 02, No. 2.
+// The calls: size, fault, run, total, take-down, write and page. None has a `requires`. 01, "Calls"; 02, No. 2 and No. 3.
 // The papers leave no value of these calls free: each answer, each lent word and each lent byte is promised by equation.
 use format::Command;
 use job::FaultAnswer;
 use job::RowCount;
 use job::Walked;
+use printing::Printed;
 use soil::TakeDown;
 use totals::Totals;
 use writing::Written;
@@ -18,6 +19,7 @@ ghost use Rattle.totals.specs.Answers.{totalAnswer};
 ghost use Rattle.totals.specs.Total.{totalOf};
 ghost use Rattle.job.specs.Answers.{rowCountAnswer, sizeOf, faultOf};
 ghost use Rattle.writing.specs.Answers.{answerOf as writeAnswer, writeOf, bytesAfter};
+ghost use Rattle.printing.specs.Answers.{pageAnswer, pageOf, bytesAfter as pageAfter};
 ghost use Rattle.capacity.specs.Calls.{runAnswer, runOf, rowsAfter, Writes};
 ghost use Rattle.capacity.specs.DemandThree.{DemandThree};
 
@@ -66,6 +68,14 @@ pub fn write(command: Command, bytes: &mut [u8]) -> Written
     ensures back { λ r. ⌜ (writeAnswer r .number ≡ 0 → commandAt (now (bytes .exit)) 0 ≡ command) ⌝ }
 {
     writing::write(command, bytes)
+}
+
+// The page of the first n rows, written from the slice's first byte on.
+pub fn page(rows: &[i64], n: usize, bytes: &mut [u8]) -> Printed
+    ensures answer { λ r. ⌜ pageAnswer r ≡ pageOf (now (rows .entry)) n (length (now (bytes .entry))) ⌝ }
+    ensures bytes { λ r. ⌜ now (bytes .exit) ≡ pageAfter (now (rows .entry)) n (now (bytes .entry)) ⌝ }
+{
+    printing::page(rows, n, bytes)
 }
 
 // The rows of a job, where it is accepted and there is room for all. The cubes may be lent or not.

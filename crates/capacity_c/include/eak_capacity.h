@@ -7,12 +7,12 @@
  * links dynamically takes more at its first call, where the loader looks for memset.
  *
  * Lent memory. A pointer and a number of elements, which the caller owns; the call reads or writes there during the call and
- * keeps no pointer. A call changes no lent memory beyond what it says. `rows` of eak_run must not overlap `job`. Words (int64_t) are
- * aligned to 8 bytes. A size in bytes is at most PTRDIFF_MAX.
+ * keeps no pointer. A call changes no lent memory beyond what it says. `rows` of eak_run must not overlap `job`, `bytes` of eak_page
+ * must not overlap `rows`. Words (int64_t) are aligned to 8 bytes. A size in bytes is at most PTRDIFF_MAX.
  * A pointer is never NULL, also where the number of elements is 0: pass the address of any object then, of an int64_t for `rows`.
  * Nothing is read or written there. (A vector without elements may have NULL as its address: test for it.)
- * These are the only things asked of a caller: every byte of a job, every word of a row and every member of a struct may have any
- * value.
+ * These are the only things asked of a caller: every byte of a job, every word of a row, every number of rows and every member of a
+ * struct may have any value.
  *
  * Refusals. No call prints, aborts or sets errno: an answer has the number of the refusal, 0 where there is none. A refusal carries
  * offset 0 where no other is stated. docs/FORMAT.md has the causes and the remedies:
@@ -26,7 +26,8 @@
  *    7  no longer given (before version 1.1.0: joint id given twice; a joint given again now replaces the earlier one)
  *    8  a 4,097th command, end not counted
  *    9  too few words for the rows
- *   11  too few bytes for the command, from the eak_write calls (10 is the listing program's: its input is too long)
+ *   11  too few bytes: for the command, from the eak_write calls; for the page, from eak_page (10 is the programs': input too long)
+ *   12  a value too wide for its column, from eak_page; no row that eak_run writes has one
  */
 #ifndef EAK_CAPACITY_H
 #define EAK_CAPACITY_H
@@ -39,10 +40,10 @@
 extern "C" {
 #endif
 
-/* The version that this header belongs to, 1.2.0: 10,000 times the major number, 100 times the minor one, and the patch. A call is
+/* The version that this header belongs to, 1.3.0: 10,000 times the major number, 100 times the minor one, and the patch. A call is
  * changed or removed with the major number; with the minor one a call is added, or jobs are accepted that were refused.
  * eak_version answers the library's. */
-#define EAK_VERSION 10200
+#define EAK_VERSION 10300
 
 /* The words of a row. Word 0 is the command's offset in the job, word 1 its byte, word 7 the verdict, 0 for passed. */
 #define EAK_ROW_WORDS 8
@@ -53,6 +54,11 @@ extern "C" {
 
 /* No command has more bytes: a footing has 58. With so much room no write is refused with 11. */
 #define EAK_COMMAND_BYTES 58
+
+/* The bytes of the page of n rows: a line has 81, and a form feed stands after every 50 lines that a line follows. It is for the room
+ * of eak_page, also as the size of an array: uint8_t page[EAK_PAGE_BYTES(1024)]. n is an expression without effects, from 0 up, and
+ * is evaluated more than once; the value is a size_t and right for every n up to PTRDIFF_MAX / 82, so for the rows of every job. */
+#define EAK_PAGE_BYTES(n) ((n) == 0 ? (size_t)0 : 81 * (size_t)(n) + ((size_t)(n) - 1) / 50)
 
 /* A call takes less stack. */
 #define EAK_STACK_BYTES 16384
@@ -94,6 +100,14 @@ struct eak_write_answer {
     uint32_t number; /* the refusal, 5 or 11, or 0 */
     size_t offset;   /* always 0 */
     size_t bytes;    /* the bytes written, 0 in a refusal */
+};
+
+/* The answer of eak_page. */
+struct eak_page_answer {
+    uint32_t number; /* the refusal, 9, 12 or 11, or 0 */
+    size_t offset;   /* always 0 */
+    size_t rows;     /* for 9 the rows asked for, n; else 0 */
+    size_t bytes;    /* the length of the page, 0 in a refusal */
 };
 
 /* The values of each command, in the file's order, for the eak_write calls; each member with its meaning, unit and range. A value out
@@ -248,6 +262,20 @@ struct eak_write_answer eak_write_soil(struct eak_soil values, uint8_t *bytes, s
 struct eak_write_answer eak_write_footing(struct eak_footing values, uint8_t *bytes, size_t room);
 struct eak_write_answer eak_write_detail(struct eak_detail values, uint8_t *bytes, size_t room);
 struct eak_write_answer eak_write_end(uint8_t *bytes, size_t room);
+
+/* Prints the first n rows, in a stretch of `row_words` words, as a page from bytes[0] on, and answers its length, which n alone fixes:
+ * EAK_PAGE_BYTES(n). Each row is a line of 80 characters and a line feed: word 0 right-aligned in 7 characters, word 1 in 3, words 2
+ * to 6 in 13 each, word 7 in 5, decimal, with blanks to the left and a minus directly before the first digit. A form feed stands after
+ * every 50 lines, none at the end. There is no zero byte at the end. It tries
+ *    9  fewer than 8 times n words; n may be any number
+ *   12  a value of the first n rows needs more than its width less one character, its minus counted: more than 6, 2, 12 or 4
+ *   11  `room` is less than the page's bytes; exactly as many suffice
+ * in this order, each over the whole page. Where `room` is larger, the bytes after the page stay as they were; in a refusal every byte
+ * does. Words after the first n rows are not looked at. A page of rows that eak_run wrote is never refused with 12:
+ *    struct eak_job_answer ran = eak_run(job, job_bytes, rows, row_words);
+ *    if (ran.accepted) answer = eak_page(rows, row_words, ran.rows, page, room);
+ */
+struct eak_page_answer eak_page(const int64_t *rows, size_t row_words, size_t n, uint8_t *bytes, size_t room);
 
 #ifdef __cplusplus
 }

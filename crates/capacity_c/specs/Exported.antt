@@ -3,10 +3,12 @@ use Rattle.job.specs.Answers.{Answer}
 use Rattle.job.specs.declared.FaultAnswer.{FaultAnswer}
 use Rattle.totals.specs.Answers.{TotalAnswer}
 use Rattle.soil.specs.Answers as soil
+use Rattle.printing.specs.Answers.{PageAnswer}
 use Rattle.capacity_c.specs.declared.JobAnswer.{JobAnswer}
 use Rattle.capacity_c.specs.declared.FaultFound.{FaultFound}
 use Rattle.capacity_c.specs.declared.TotalsAnswer.{TotalsAnswer}
 use Rattle.capacity_c.specs.declared.SoilAnswer.{SoilAnswer}
+use Rattle.capacity_c.specs.declared.PrintedAnswer.{PrintedAnswer}
 
 abbrev pub jobAnswer : Answer → JobAnswer
 jobAnswer a = record { accepted = a .accepted; number = a .number; offset = a .offset; rows = a .rows }
@@ -19,3 +21,6 @@ totalsAnswer a = record { number = a .number; offset = a .offset; rows = a .rows
 
 abbrev pub soilAnswer : soil.Answer → SoilAnswer
 soilAnswer a = record { number = a .number; offset = a .offset; value = a .value }
+
+abbrev pub printedAnswer : PageAnswer → PrintedAnswer
+printedAnswer a = record { number = a .number; offset = a .offset; rows = a .rows; bytes = a .bytes }

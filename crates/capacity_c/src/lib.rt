@@ -2,6 +2,7 @@
 // that of the same call in `capacity`, its answer as a struct. 01, "Calls".
 use capacity::Ran;
 use job::RowCount;
+use printing::Printed;
 use soil::TakeDown;
 use totals::Totals;
 ghost use mathlib.Core.Path.{_≡_};
@@ -12,9 +13,10 @@ ghost use Rattle.soil.specs.Taken.{takeDown};
 ghost use Rattle.totals.specs.Answers.{totalAnswer};
 ghost use Rattle.totals.specs.Total.{totalOf};
 ghost use Rattle.job.specs.Answers.{rowCountAnswer, sizeOf, faultOf};
+ghost use Rattle.printing.specs.Answers.{pageAnswer, pageOf, bytesAfter as pageAfter};
 ghost use Rattle.capacity.specs.Calls.{runAnswer, runOf, rowsAfter};
 ghost use Rattle.capacity.specs.DemandThree.{DemandThree};
-ghost use Rattle.capacity_c.specs.Exported.{jobAnswer, faultFound, totalsAnswer, soilAnswer};
+ghost use Rattle.capacity_c.specs.Exported.{jobAnswer, faultFound, totalsAnswer, soilAnswer, printedAnswer};
 
 mod writes; // writes.rt: the calls that write a command
 
@@ -52,6 +54,15 @@ pub struct FaultFound {
     pub offset: usize,
     pub command: u32,
     pub operand: u32,
+}
+
+// The answer of page.
+#[repr(C)]
+pub struct PrintedAnswer {
+    pub number: u32,
+    pub offset: usize,
+    pub rows: usize,
+    pub bytes: usize,
 }
 
 fn counted(answer: RowCount) -> JobAnswer
@@ -143,6 +154,37 @@ fn taken(answer: TakeDown) -> SoilAnswer
     }
 }
 
+fn paged(answer: Printed) -> PrintedAnswer
+    ensures { λ r. ⌜ r ≡ printedAnswer (pageAnswer answer) ⌝ }
+{
+    match answer {
+        Printed::Bytes(bytes) => PrintedAnswer {
+            number: 0,
+            offset: 0,
+            rows: 0,
+            bytes,
+        },
+        Printed::TooFewWords(rows) => PrintedAnswer {
+            number: 9,
+            offset: 0,
+            rows,
+            bytes: 0,
+        },
+        Printed::TooWide => PrintedAnswer {
+            number: 12,
+            offset: 0,
+            rows: 0,
+            bytes: 0,
+        },
+        Printed::TooShort => PrintedAnswer {
+            number: 11,
+            offset: 0,
+            rows: 0,
+            bytes: 0,
+        },
+    }
+}
+
 // A job's row count, or its refusal.
 #[no_mangle]
 pub extern "C" fn eak_size(job: &[u8]) -> JobAnswer
@@ -183,6 +225,15 @@ pub extern "C" fn eak_total(rows: &[i64], n: usize) -> TotalsAnswer
     totalled(capacity::total(rows, n))
 }
 
+// The page of the first n rows, written from the slice's first byte on.
+#[no_mangle]
+pub extern "C" fn eak_page(rows: &[i64], n: usize, bytes: &mut [u8]) -> PrintedAnswer
+    ensures answer { λ r. ⌜ r ≡ printedAnswer (pageOf (now (rows .entry)) n (length (now (bytes .entry)))) ⌝ }
+    ensures bytes { λ r. ⌜ now (bytes .exit) ≡ pageAfter (now (rows .entry)) n (now (bytes .entry)) ⌝ }
+{
+    paged(capacity::page(rows, n, bytes))
+}
+
 // Take-down of one soil value. Any 32 bits may come as the value: a NaN is not at most its limit, so it is refused like the rest.
 #[no_mangle]
 pub extern "C" fn eak_take_down(kind: u8, value: f32) -> SoilAnswer
@@ -194,7 +245,7 @@ pub extern "C" fn eak_take_down(kind: u8, value: f32) -> SoilAnswer
 // The version of these calls: 10,000 times the major number, 100 times the minor one, and the patch; the header's EAK_VERSION.
 #[no_mangle]
 pub extern "C" fn eak_version() -> u32
-    ensures { λ r. ⌜ r ≡ 10200 ⌝ }
+    ensures { λ r. ⌜ r ≡ 10300 ⌝ }
 {
-    10200
+    10300
 }

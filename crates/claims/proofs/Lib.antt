@@ -1,5 +1,6 @@
--- The laws by which the claims of a row follow from a few facts of its demands.
+-- The laws by which the claims of a row follow from a few facts of its demands; the sizes of its words.
 pub mod Orders
 pub mod Checks
 pub mod Rounded
 pub mod Bits
+pub mod Sizes

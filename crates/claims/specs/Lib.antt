@@ -1,5 +1,7 @@
--- Demand 3 for one row: what is claimed of its demands, its strengths, its checks and its verdict. Assumes nothing.
+-- Demand 3 for one row: what is claimed of its demands, its strengths, its checks and its verdict; and how large
+-- its words are. Assumes nothing.
 pub mod Verdict
 pub mod Words
+pub mod Sizes
 pub mod Exact
 pub mod Claims

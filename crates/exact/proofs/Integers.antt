@@ -63,7 +63,7 @@ natAbs-neg (pos zero) = refl
 natAbs-neg (pos (suc n)) = refl
 natAbs-neg (negsuc n) = refl
 
-natAbs-subℕ : (a b : ℕ) → natAbs (subℕ a b) ≤ a + b
+pub natAbs-subℕ : (a b : ℕ) → natAbs (subℕ a b) ≤ a + b
 natAbs-subℕ a b =
     by-test (ltb a b) (negsuc (b - suc a)) (pos (a - b)) (λ z. natAbs z ≤ a + b) (λ t. less a b (ltb→lt a b t)) (λ t. more a b)
   where

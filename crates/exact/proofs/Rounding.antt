@@ -1,14 +1,14 @@
 -- The two laws of each rounding of specs/Quotient.antt: n ≤ up·d < n + d and down·d ≤ n < down·d + d, over ℕ and over ℤ,
--- and that a number between those bounds is the rounded one. Assumes nothing.
+-- that a number between those bounds is the rounded one, and how large a rounded number is. Assumes nothing.
 use mathlib.Core.Path.{_≡_, ap}
 use Prim.Native.Nat.{ℕ, suc, _+_, _-_, _*_, _/_, _≤_, _<_}
 use native.Mathlib.Omega.{arith}
 use native.Mathlib.Nat.{div-mul-le-self, lt-div-mul-add, lt-of-mul-lt-mul-right, mul-le-mul-right}
-use lib.IntN.{ℤ, pos, negsuc, negℤ, _+ℤ_, _*ℤ_}
+use lib.IntN.{ℤ, pos, negsuc, negℤ, subℕ, natAbs, _+ℤ_, _*ℤ_}
 use lib.Signed.{_≤ℤ_, _<ℤ_}
 use Rattle.exact.specs.Quotient.{up, down, upℤ, downℤ}
-use Rattle.exact.specs.SignedFraction.{above, below}
-use Rattle.exact.proofs.Integers.{≡-in, ≤ℤ-in, <ℤ-in, above-neg, below-neg, *ℤ-law, +ℤ-law}
+use Rattle.exact.specs.SignedFraction.{SignedFraction, ProperS, above, below, upS, downS}
+use Rattle.exact.proofs.Integers.{≡-in, ≤ℤ-in, <ℤ-in, above-neg, below-neg, natAbs-neg, natAbs-subℕ, *ℤ-law, +ℤ-law}
 
 -- ---- naturals
 
@@ -92,6 +92,24 @@ upℤ-is n r d h a b =
     let k = stepℤ d r q (omega (arith, upℤ-le n d h)) in
     let l = stepℤ d q r (omega (arith, upℤ-lt n d h)) in
     ≡-in r q (omega arith)
+
+-- ---- how large they are: a quotient of a size of at most b, rounded, is of a size of at most b
+
+downℤ-size : (n : ℤ) (d b : ℕ) → natAbs n ≤ b * d → 0 < d → natAbs (downℤ n d) ≤ b
+unfolding downℤ
+downℤ-size (pos a) d b h p = step d (a / d) b (omega (arith, div-mul-le-self a d))
+downℤ-size (negsuc a) d b h p = step d (suc (a / d)) b (omega (arith, div-mul-le-self a d))
+
+upℤ-size : (n : ℤ) (d b : ℕ) → natAbs n ≤ b * d → 0 < d → natAbs (upℤ n d) ≤ b
+unfolding upℤ
+upℤ-size n d b h p =
+    omega (arith, natAbs-neg (downℤ (negℤ n) d), downℤ-size (negℤ n) d b (omega (arith, natAbs-neg n)) p)
+
+pub downS-size : (x : SignedFraction) (b : ℕ) → x .plus + x .minus ≤ b * x .den → ProperS x → natAbs (downS x) ≤ b
+downS-size x b h p = downℤ-size (subℕ (x .plus) (x .minus)) (x .den) b (omega (arith, natAbs-subℕ (x .plus) (x .minus))) p
+
+pub upS-size : (x : SignedFraction) (b : ℕ) → x .plus + x .minus ≤ b * x .den → ProperS x → natAbs (upS x) ≤ b
+upS-size x b h p = upℤ-size (subℕ (x .plus) (x .minus)) (x .den) b (omega (arith, natAbs-subℕ (x .plus) (x .minus))) p
 
 -- ---- the same laws as a reader of ℤ has them
 

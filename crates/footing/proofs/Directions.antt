@@ -4,7 +4,7 @@ use mathlib.Core.Path.{_≡_, refl, sym, ap, _∙_, subst}
 use mathlib.Core.Bool.{Bool, true, false}
 use Prim.Native.Nat.{ℕ, suc, _+_, _-_, _*_, _≤_, _<_}
 use native.Mathlib.Omega.{arith}
-use native.Mathlib.Nat.{mul-zero, mul-le-mul, lt-of-mul-lt-mul-right}
+use native.Mathlib.Nat.{mul-zero, mul-le-mul}
 use lib.Dec.{T}
 use lib.IntN.{ℤ, pos, negsuc, negℤ, subℕ, _*ℤ_, natAbs}
 use lib.Signed.{leZ, nonNeg, _<ℤ_}
@@ -17,7 +17,7 @@ use Rattle.exact.specs.SignedFraction.{SignedFraction, ProperS, above, below, w
 use Rattle.exact.specs.Sums.{SumFits}
 use Rattle.exact.proofs.Multiply.{_·_}
 use Rattle.exact.proofs.Integers.{<ℤ-in, above-neg, below-neg, natAbs-law, natAbs-neg, natAbs-*ℤ, fits-size, subℕ-law}
-use Rattle.exact.proofs.Rounding.{up-le-of, downℤ-le, downℤ-lt}
+use Rattle.exact.proofs.Rounding.{up-le-of, downS-size, downℤ-le, downℤ-lt}
 use Rattle.coefficient.specs.declared.Quotient.{Quotient}
 use Rattle.coefficient.specs.Coefficient.{fraction}
 use Rattle.coefficient.specs.Coefficient.{CoefficientRange}
@@ -146,17 +146,13 @@ heavy x p h = by (downS x) refl h
         record { is = rw e; force = rw e (record { proper = p; least = l; low = omega arith; high = omega (arith, l · (x .den)) }) }
     by (negsuc n) e h = absurd (subst T (sym h) tt)
 
-pub normal-le : (minus : Bool) (a : Quotient) (v e : ℤ) → ActionRange a v e → Heavy (action minus (fraction a) v e) →
-    natAbs (downS (action minus (fraction a) v e)) ≤ 500000000
-normal-le minus a v e r h =
-    let x = action minus (fraction a) v e in
-    let k : natAbs (downS x) < suc 500000000 = lt-of-mul-lt-mul-right (x .den) (omega (arith, h .force .low, parts minus a v e r, proper minus (fraction a) v e (r .coefficient .positive))) in
-    omega arith
+-- N, and 1000·X/N up, for X at most 5·10⁸
+pub normal-le : (minus : Bool) (a : Quotient) (v e : ℤ) → ActionRange a v e → natAbs (downS (action minus (fraction a) v e)) ≤ 500000000
+normal-le minus a v e r = downS-size (action minus (fraction a) v e) 500000000 (parts minus a v e r) (proper minus (fraction a) v e (r .coefficient .positive))
+
+pub eccentricity-le : (x n : ℕ) → 20000 ≤ n → x ≤ 500000000 → up (1000 * x) n ≤ 25000000
+eccentricity-le x n h k = up-le-of (1000 * x) n 25000000 (omega arith) (omega arith)
 
 -- N as an unsigned number
 pub unsigned : (z : ℤ) (n : ℕ) → z ≡ pos n → n ≤ 500000000 → T (nonNeg z) × Fits w64 (natAbs z)
 unsigned z n e h = rw e (tt, record { fits = omega arith })
-
--- 1000·X/N up, for X at most 5·10⁸
-pub eccentricity-le : (x n : ℕ) → 0 < n → x ≤ 500000000 → up (1000 * x) n ≤ 500000000000
-eccentricity-le x n h k = up-le-of (1000 * x) n 500000000000 h (omega (arith, mul-le-mul k h))

@@ -10,6 +10,7 @@ pub mod Simulation
 pub mod Begin
 pub mod RefusedLaws
 pub mod AcceptedLaws
+pub mod Offsets
 pub mod AcceptedBefore
 pub mod LatestJoint
 pub mod AlreadyMet

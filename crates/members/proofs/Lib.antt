@@ -1,4 +1,4 @@
--- What callers cite: the claims of each row hold, and each word of a row fits an i64.
+-- What callers cite: the claims of each row hold, and how large the words of each row are.
 pub mod Steps
 pub mod Rows
 pub mod Shears
@@ -6,4 +6,4 @@ pub mod ColumnHolds
 pub mod BeamHolds
 pub mod HingelessHolds
 pub mod DetailHolds
-pub mod Fits
+pub mod Sizes

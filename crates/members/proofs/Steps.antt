@@ -15,7 +15,7 @@ use Rattle.exact.specs.Fraction.{Fraction, Proper, ratio, whole, smaller, upF, 
 use Rattle.exact.specs.SignedFraction.{wholeS, signed, ratioS, _+S_, _-S_, downS}
 use Rattle.exact.specs.Sums.{SumFits}
 use Rattle.exact.proofs.Integers.{<ℤ-in, <ℤ-out, fits-size, negated, above-neg, below-neg, natAbs-+ℤ, natAbs-neg}
-use Rattle.exact.proofs.Rounding.{up-le-of, up-le-self}
+use Rattle.exact.proofs.Rounding.{up-le-of}
 use Rattle.coefficient.specs.declared.Quotient.{Quotient}
 use Rattle.coefficient.specs.declared.Settings.{Settings}
 use Rattle.coefficient.specs.Coefficient.{fraction, coefficientOf}
@@ -111,11 +111,11 @@ lower-test n l = rw (negated (pos n)) (same (ltZ l (negℤ (pos n))) (ltZ (pos n
 pub end-at-most : (g R E q x m : ℕ) → m ≡ upF (coefficientOf g R E q *F whole x) → q ≤ 400 → x ≤ 100000000 → m ≤ 400000000
 end-at-most g R E q x m e c h = omega (arith, e, product-le g R E q x c)
 
-pub shear-at-most : (s : Settings) (j1 j2 : Joint) (m : Hingeless) → HingelessRange s j1 j2 m → roundedShear s j1 j2 m ≤ 800000000000
+pub shear-at-most : (s : Settings) (j1 j2 : Joint) (m : Hingeless) → HingelessRange s j1 j2 m → roundedShear s j1 j2 m ≤ 1600000000
 shear-at-most s j1 j2 m r =
     let m1 = endMoment s j1 (m .moment1) in
     let m2 = endMoment s j2 (m .moment2) in
     at-most m1 m2 (m .length) (end-at-most _ _ _ _ _ m1 refl (r .behaviour) (r .moment1)) (end-at-most _ _ _ _ _ m2 refl (r .behaviour) (r .moment2)) (r .length-least)
   where
-    at-most : (m1 m2 l : ℕ) → m1 ≤ 400000000 → m2 ≤ 400000000 → 500 ≤ l → up (1000 * (m1 + m2)) l ≤ 800000000000
-    at-most m1 m2 l a b h = omega (arith, up-le-self (1000 * (m1 + m2)) l (omega arith))
+    at-most : (m1 m2 l : ℕ) → m1 ≤ 400000000 → m2 ≤ 400000000 → 500 ≤ l → up (1000 * (m1 + m2)) l ≤ 1600000000
+    at-most m1 m2 l a b h = up-le-of (1000 * (m1 + m2)) l 1600000000 (omega arith) (omega arith)

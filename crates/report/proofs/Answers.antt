@@ -1,4 +1,4 @@
--- The listing of a job in each of the three answers of `run`, over plain values. Assumes nothing.
+-- What is printed of a job in each of the three answers of `run`, over plain values. Assumes nothing.
 use mathlib.Core.Path.{_≡_, refl, sym, ap, ap₂, _∙_}
 use mathlib.Core.Bool.{Bool, true, false, cond, true≢false}
 use mathlib.Core.List.{List}
@@ -14,9 +14,13 @@ use Rattle.slices.specs.Written.{WritesAtMost}
 use Rattle.rows.specs.Writing.{joined}
 use Rattle.job.specs.Placed.{Placed, Job, refused, accepted, placed, allRows}
 use Rattle.job.specs.Answers.{Answer, rowsAnswer, refusedAnswer}
+use Rattle.layout.proofs.Numbers.{Bytes}
+use Rattle.printing.specs.Answers.{pageTooWide}
+use Rattle.capacity.proofs.PageOfRun.{none-too-wide}
 use Rattle.capacity.specs.Calls.{tooShortAnswer, runFrom, runOf, rowsFrom, rowsAfter}
-use Rattle.report.specs.Listing.{mostBytes, mostRows, rowsListing, acceptedListing, jobListing, listingOf}
-use Rattle.report.proofs.FirstRows.{first-rows}
+use Rattle.report.specs.Printed.{mostBytes, mostRows, acceptedText, jobText, printedOf}
+use Rattle.report.specs.Page.{rowsText}
+use Rattle.report.proofs.FirstRows.{first-text}
 
 -- the words of the slice that is lent to `run`
 abbrev pub lent : ℕ
@@ -32,59 +36,66 @@ module _ (ps : List Placed) (P : Answer → Type 0) where
       go true e = room e
       go false e = none e
 
--- ---- refused
+module _ (paged : Bool) where
+  -- ---- refused
 
-refused-from : (number offset : ℕ) (j : Job) → refusedAnswer number offset ≡ runFrom j lent → jobListing j ≡ refusedLine number offset
-refused-from number offset (refused n o) e = sym (ap₂ refusedLine (ap (λ (a : Answer). a .number) e) (ap (λ (a : Answer). a .offset) e))
-refused-from number offset (accepted ps) e =
-    by-room ps (λ a. refusedAnswer number offset ≡ a → acceptedListing (allRows ps) ≡ refusedLine number offset)
-    (λ y q. absurd (true≢false (sym (ap (λ (a : Answer). a .accepted) q))))
-    (λ y q. absurd (lt-irrefl 0 (omega (arith, leb-false (8 * length (allRows ps)) lent y, ap (λ (a : Answer). a .rows) q)))) e
+  refused-from : (number offset : ℕ) (j : Job) → refusedAnswer number offset ≡ runFrom j lent → jobText (rowsText paged) j ≡ refusedLine number offset
+  refused-from number offset (refused n o) e = sym (ap₂ refusedLine (ap (λ (a : Answer). a .number) e) (ap (λ (a : Answer). a .offset) e))
+  refused-from number offset (accepted ps) e =
+      by-room ps (λ a. refusedAnswer number offset ≡ a → acceptedText (rowsText paged) (allRows ps) ≡ refusedLine number offset)
+      (λ y q. absurd (true≢false (sym (ap (λ (a : Answer). a .accepted) q))))
+      (λ y q. absurd (lt-irrefl 0 (omega (arith, leb-false (8 * length (allRows ps)) lent y, ap (λ (a : Answer). a .rows) q)))) e
 
-pub refused-listing : (job : List ℕ) (number offset : ℕ) → refusedAnswer number offset ≡ runOf job lent → jobListing (placed job) ≡ refusedLine number offset
-unfolding runOf
-refused-listing job number offset e = refused-from number offset (placed job) e
+  pub refused-text : (job : List ℕ) (number offset : ℕ) → refusedAnswer number offset ≡ runOf job lent → jobText (rowsText paged) (placed job) ≡ refusedLine number offset
+  unfolding runOf
+  refused-text job number offset e = refused-from number offset (placed job) e
 
--- ---- too many rows
+  -- ---- too many rows
 
-short-from : (n : ℕ) (j : Job) → tooShortAnswer n ≡ runFrom j lent → jobListing j ≡ refusedLine 9 n
-short-from n (refused number offset) e =
-    ap₂ refusedLine (sym (ap (λ (a : Answer). a .number) e)) (sym (ap (λ (a : Answer). a .offset) e) ∙ sym (ap (λ (a : Answer). a .rows) e))
-short-from n (accepted ps) e =
-    by-room ps (λ a. tooShortAnswer n ≡ a → acceptedListing (allRows ps) ≡ refusedLine 9 n)
-    (λ y q. absurd (true≢false (sym (ap (λ (a : Answer). a .accepted) q))))
-    (λ y q.
-    let l = lt-leb (length (allRows ps)) mostRows (omega (arith, leb-false (8 * length (allRows ps)) lent y)) in
-    rw l (ap (refusedLine 9) (sym (ap (λ (a : Answer). a .rows) q)))) e
+  short-from : (n : ℕ) (j : Job) → tooShortAnswer n ≡ runFrom j lent → jobText (rowsText paged) j ≡ refusedLine 9 n
+  short-from n (refused number offset) e =
+      ap₂ refusedLine (sym (ap (λ (a : Answer). a .number) e)) (sym (ap (λ (a : Answer). a .offset) e) ∙ sym (ap (λ (a : Answer). a .rows) e))
+  short-from n (accepted ps) e =
+      by-room ps (λ a. tooShortAnswer n ≡ a → acceptedText (rowsText paged) (allRows ps) ≡ refusedLine 9 n)
+      (λ y q. absurd (true≢false (sym (ap (λ (a : Answer). a .accepted) q))))
+      (λ y q.
+      let l = lt-leb (length (allRows ps)) mostRows (omega (arith, leb-false (8 * length (allRows ps)) lent y)) in
+      rw l (ap (refusedLine 9) (sym (ap (λ (a : Answer). a .rows) q)))) e
 
-pub short-listing : (job : List ℕ) (n : ℕ) → tooShortAnswer n ≡ runOf job lent → jobListing (placed job) ≡ refusedLine 9 n
-unfolding runOf
-short-listing job n e = short-from n (placed job) e
+  pub short-text : (job : List ℕ) (n : ℕ) → tooShortAnswer n ≡ runOf job lent → jobText (rowsText paged) (placed job) ≡ refusedLine 9 n
+  unfolding runOf
+  short-text job n e = short-from n (placed job) e
 
--- ---- rows
+  -- ---- rows
 
--- the rows are few enough, and their listing is that of the words that `run` left
-pub record Listed (j : Job) (n : ℕ) (words : List ℤ) : Type 0 where
-  pub few : n ≤ mostRows
-  pub listing : jobListing j ≡ rowsListing words n
+  -- the rows are few enough, and what is printed is the text of the words that `run` left
+  pub record Shown (j : Job) (n : ℕ) (words : List ℤ) : Type 0 where
+    pub few : n ≤ mostRows
+    pub text : jobText (rowsText paged) j ≡ rowsText paged words n
 
-rows-from : (n : ℕ) (m : List ℤ) → length m ≡ lent → (j : Job) → length (rowsFrom j m) ≡ lent → rowsAnswer n ≡ runFrom j lent → Listed j n (rowsFrom j m)
-rows-from n m k (refused number offset) kept e = absurd (true≢false (ap (λ (a : Answer). a .accepted) e))
-rows-from n m k (accepted ps) kept e =
-    by-room ps (λ a. rowsAnswer n ≡ a → Listed (accepted ps) n (rowsFrom (accepted ps) m))
-    (λ y q.
-    let rows = allRows ps in
-    let c : n ≡ length rows = ap (λ (a : Answer). a .rows) q in
-    let fit : 8 * length rows ≤ lent = leb-true (8 * length rows) lent y in
-    let room : leb (8 * length rows) (length m) ≡ true = rw k y in
-    let l = le-leb (length rows) mostRows (omega arith) in
-    let same = first-rows (joined rows) (drop (8 * length rows) m) (length rows) (omega (arith, simp (length-append, length-drop) at (rw room at kept))) in
-    record { few = omega arith; listing = rw (l, room, c) (sym same) })
-    (λ y q. absurd (true≢false (ap (λ (a : Answer). a .accepted) q))) e
+  rows-from : (n : ℕ) (m : List ℤ) → length m ≡ lent → (j : Job) → length (rowsFrom j m) ≡ lent → rowsAnswer n ≡ runFrom j lent → Shown j n (rowsFrom j m)
+  rows-from n m k (refused number offset) kept e = absurd (true≢false (ap (λ (a : Answer). a .accepted) e))
+  rows-from n m k (accepted ps) kept e =
+      by-room ps (λ a. rowsAnswer n ≡ a → Shown (accepted ps) n (rowsFrom (accepted ps) m))
+      (λ y q.
+      let rows = allRows ps in
+      let c : n ≡ length rows = ap (λ (a : Answer). a .rows) q in
+      let fit : 8 * length rows ≤ lent = leb-true (8 * length rows) lent y in
+      let room : leb (8 * length rows) (length m) ≡ true = rw k y in
+      let l = le-leb (length rows) mostRows (omega arith) in
+      let same = first-text (joined rows) (drop (8 * length rows) m) paged (length rows) (omega (arith, simp (length-append, length-drop) at (rw room at kept))) in
+      record { few = omega arith; text = rw (l, room, c) (sym same) })
+      (λ y q. absurd (true≢false (ap (λ (a : Answer). a .accepted) q))) e
 
-pub rows-listing : (job : List ℕ) (n : ℕ) (m : List ℤ) → length m ≡ lent → length (rowsAfter job m) ≡ lent → rowsAnswer n ≡ runOf job lent → Listed (placed job) n (rowsAfter job m)
-unfolding runOf rowsAfter
-rows-listing job n m k kept e = rows-from n m k (placed job) kept e
+  pub rows-text : (job : List ℕ) (n : ℕ) (m : List ℤ) → length m ≡ lent → length (rowsAfter job m) ≡ lent → rowsAnswer n ≡ runOf job lent → Shown (placed job) n (rowsAfter job m)
+  unfolding runOf rowsAfter
+  rows-text job n m k kept e = rows-from n m k (placed job) kept e
+
+-- no value of the rows is too wide for a page
+pub narrow-rows : (job : List ℕ) → Bytes job → (n : ℕ) (m : List ℤ) → length m ≡ lent → rowsAnswer n ≡ runOf job lent → pageTooWide (rowsAfter job m) n ≡ false
+narrow-rows job b n m k e =
+    let r : runOf job (length m) ≡ rowsAnswer n = ap (runOf job) k ∙ sym e in
+    none-too-wide job b m (ap (λ (a : Answer). a .accepted) r) n (omega (arith, ap (λ (a : Answer). a .rows) r))
 
 -- ---- the room of a line and of a listing
 
@@ -93,10 +104,11 @@ at-most w h = record { writes = w .writes; short = omega (arith, w .short) }
 
 -- ---- the bytes of the job
 
-pub long-listing : (job : List ℕ) → mostBytes < length job → listingOf job ≡ refusedLine 10 0
-unfolding listingOf
-long-listing job h = ap (λ (b : Bool). cond b (refusedLine 10 0) (jobListing (placed job))) (lt-ltb mostBytes (length job) h)
+module _ (text : List ℤ → ℕ → List ℕ) (job : List ℕ) where
+  pub long-text : mostBytes < length job → printedOf text job ≡ refusedLine 10 0
+  unfolding printedOf
+  long-text h = ap (λ (b : Bool). cond b (refusedLine 10 0) (jobText text (placed job))) (lt-ltb mostBytes (length job) h)
 
-pub whole-listing : (job : List ℕ) → length job ≤ mostBytes → listingOf job ≡ jobListing (placed job)
-unfolding listingOf
-whole-listing job h = ap (λ (b : Bool). cond b (refusedLine 10 0) (jobListing (placed job))) (le-ltb mostBytes (length job) h)
+  pub whole-text : length job ≤ mostBytes → printedOf text job ≡ jobText text (placed job)
+  unfolding printedOf
+  whole-text h = ap (λ (b : Bool). cond b (refusedLine 10 0) (jobText text (placed job))) (le-ltb mostBytes (length job) h)

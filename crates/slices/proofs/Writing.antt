@@ -6,7 +6,7 @@ use native.Mathlib.Nat.{add-assoc, add-zero}
 use native.Mathlib.Numerals.{add-one}
 use native.Mathlib.Omega.{arith}
 use lib.ListN.{length, getD, take, drop, set, length-append, length-drop, take-append-drop}
-use lib.Seq.{length-take-le, take-suc, take-at, drop-append-add, drop-drop, set-at, set-split}
+use lib.Seq.{length-take-le, take-suc, take-at, drop-append-add, drop-at, drop-drop, set-at, set-split}
 use Rattle.slices.specs.Written.{written, Put, Writes}
 
 pub written-none : (out : List ℕ) (at : ℕ) → written out at [] ≡ out
@@ -53,6 +53,24 @@ written-after out at a b h =
     let d : drop (at + length a + length b) (p ++ r) ≡ drop (at + length a + length b) out =
     rw (← e, drop-append-add) (rw (e, drop-drop)) in
     rw (take-at p r (at + length a) e, length-append, ← add-assoc, d, append-assoc (take at out) a b)
+
+-- a text in the place of another that is as long
+pub written-inside : (out : List ℕ) (at : ℕ) (a b c t : List ℕ) → at ≤ length out → length b ≡ length t → written (written out at (a ++ b ++ c)) (at + length a) t ≡ written out at (a ++ t ++ c)
+unfolding written
+written-inside out at a b c t h e =
+    let p = take at out ++ a in
+    let r = drop (at + length (a ++ b ++ c)) out in
+    let lp = length-front out at a h in
+    let whole : take at out ++ (a ++ b ++ c) ++ r ≡ p ++ (b ++ (c ++ r)) = simp append-assoc in
+    let front : take (at + length a) (p ++ (b ++ (c ++ r))) ≡ p = take-at p (b ++ (c ++ r)) (at + length a) lp in
+    let back : drop (at + length a + length t) (p ++ (b ++ (c ++ r))) ≡ c ++ r =
+    rw (← append-assoc p b (c ++ r)) (drop-at (p ++ b) (c ++ r) (at + length a + length t) (omega (arith, length-append p b, lp, e))) in
+    let same : at + length (a ++ b ++ c) ≡ at + length (a ++ t ++ c) =
+    omega (arith, length-append (a ++ b) c, length-append a b, length-append (a ++ t) c, length-append a t, e) in
+    rw (whole, front, back, same) (simp append-assoc)
+
+pub written-over : (out : List ℕ) (at : ℕ) (b t : List ℕ) → at ≤ length out → length b ≡ length t → written (written out at b) at t ≡ written out at t
+written-over out at b t h e = simp (add-zero, append-nil) at (written-inside out at [] b [] t h e)
 
 -- the same of two calls
 pub then : {b : List ℕ} {at : ℕ} {s m : List ℕ} {p : ℕ} {t c : List ℕ} {q : ℕ} → at ≤ length b → Writes b at s m p → Writes m p t c q → Writes b at (s ++ t) c q

@@ -51,7 +51,8 @@ module _ {before : List ℕ} {at value : ℕ} {after : List ℕ} {last rest : �
         bytes = stored b ∙ rw k;
       }
 
-  pub ended : (b : ℕ) → rest < 10 → b ≡ digit rest → set after last b ≡ written before at (decimal value)
-  ended b h e =
-      let k : last ≡ at = omega (arith, p .place, length-one rest h) in
-      stored b ∙ rw (p .text, decimal-one rest h, e, k)
+  pub first : rest < 10 → last ≡ at
+  first h = omega (arith, p .place, length-one rest h)
+
+  pub ended : (b : ℕ) → rest < 10 → b ≡ digit rest → set after last b ≡ written before last (decimal value)
+  ended b h e = stored b ∙ rw (p .text, decimal-one rest h, e)

@@ -13,9 +13,9 @@ use lib.IntN.{ℤ, pos, negsuc}
 use lib.ListN.{length, length-append}
 use mir.Syntax.{w64}
 use mir.Val.{SFits}
-use Rattle.text.specs.Decimal.{digit, digits, decimal, signedDecimal}
+use Rattle.text.specs.Decimal.{digit, digits, decimal, signedDecimal, numberFrom, numberOf}
 
-one-digit-or-more : (n : ℕ) → (n < 10) ⊎ (10 ≤ n)
+pub one-digit-or-more : (n : ℕ) → (n < 10) ⊎ (10 ≤ n)
 one-digit-or-more n = test (ltb n 10) refl
   where
     test : (b : Bool) → ltb n 10 ≡ b → (n < 10) ⊎ (10 ≤ n)
@@ -51,11 +51,6 @@ decimal-more (suc n) h =
 
 -- ---- a decimal read back is the number
 
--- n, and then the digits of a list
-abbrev pub numberFrom : ℕ → List ℕ → ℕ
-numberFrom n [] = n
-numberFrom n (b ∷ bytes) = numberFrom (n * 10 + (b - 48)) bytes
-
 number-last : (n : ℕ) (bytes : List ℕ) (b : ℕ) → numberFrom n (bytes ++ b ∷ []) ≡ numberFrom n bytes * 10 + (b - 48)
 number-last n [] b = refl
 number-last n (c ∷ bytes) b = number-last (n * 10 + (c - 48)) bytes b
@@ -67,7 +62,7 @@ digits-read (suc places) n h =
     (λ l. rw (digits-more (suc places) n l, number-last 0 (digits (suc places) (n / 10)) (digit (n % 10)), digits-read places (n / 10) (omega arith)) (omega arith))
     (one-digit-or-more n)
 
-pub decimal-read : (n : ℕ) → numberFrom 0 (decimal n) ≡ n
+pub decimal-read : (n : ℕ) → numberOf (decimal n) ≡ n
 unfolding decimal
 decimal-read n = digits-read n n (omega arith)
 
@@ -89,6 +84,18 @@ length-below (suc k) n h =
     let p : n < 10 ^ suc k * 10 = rw (pow-suc 10 (suc k)) at h in
     ⊎-elim (λ s. omega (arith, length-one n s))
     (λ l. omega (arith, length-more n l, length-below k (n / 10) (omega arith))) (one-digit-or-more n)
+
+-- one from 10ᵏ on has more than k
+pub length-from : (k n : ℕ) → 10 ^ k ≤ n → suc k ≤ length (decimal n)
+length-from zero n h = some-digit n
+length-from (suc k) n h =
+    let p : 10 ^ k * 10 ≤ n = rw (pow-suc 10 k) at h in
+    let l : 10 ≤ n = omega (arith, pos-pow k) in
+    omega (arith, length-more n l, length-from k (n / 10) (omega arith))
+  where
+    pos-pow : (k : ℕ) → 1 ≤ 10 ^ k
+    pos-pow zero = omega arith
+    pos-pow (suc k) = rw (pow-suc 10 k) (omega (arith, pos-pow k))
 
 -- a u64 has at most 20 digits
 pub length-decimal : (n : ℕ) → n < 2 ^ 64 → length (decimal n) ≤ 20

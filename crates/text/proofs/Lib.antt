@@ -1,5 +1,6 @@
 -- Laws of decimals and of the lines, and 01's example as theorems.
 pub mod Digits
+pub mod DigitBytes
 pub mod Signs
 mod Backwards
 mod RowSteps

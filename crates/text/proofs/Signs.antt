@@ -2,12 +2,12 @@
 use mathlib.Core.Path.{_≡_, refl}
 use mathlib.Core.Bool.{true, false}
 use mathlib.Core.List.{_∷_}
-use Prim.Native.Nat.{ℕ}
+use Prim.Native.Nat.{ℕ, _≤_}
 use native.Mathlib.Omega.{arith}
 use borrow.Author.Tests.{ltb-true}
-use lib.Dec.{T}
 use lib.IntN.{ℤ, pos, negsuc, natAbs}
-use lib.Signed.{ltZ, nonNeg}
+use lib.ListN.{length}
+use lib.Signed.{ltZ}
 use Rattle.text.specs.Decimal.{decimal, signedDecimal, minus}
 
 not-below : (n : ℕ) → ltZ (pos n) (pos 0) ≡ true → ⊥
@@ -26,3 +26,9 @@ pub signed-from : (z : ℤ) → ltZ z (pos 0) ≡ false → signedDecimal z ≡ 
 unfolding signedDecimal
 signed-from (pos n) t = refl
 signed-from (negsuc n) t = absurd (not-from t)
+
+-- the size takes no more characters
+pub length-size : (z : ℤ) → length (decimal (natAbs z)) ≤ length (signedDecimal z)
+unfolding signedDecimal
+length-size (pos n) = omega arith
+length-size (negsuc n) = omega arith

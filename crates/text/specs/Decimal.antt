@@ -2,7 +2,7 @@
 -- Assumes nothing.
 use mathlib.Core.Bool.{Bool, true, false}
 use mathlib.Core.List.{List, [], _∷_, _++_}
-use Prim.Native.Nat.{ℕ, zero, suc, _+_, _/_, _%_}
+use Prim.Native.Nat.{ℕ, zero, suc, _+_, _-_, _*_, _/_, _%_}
 use lib.Dec.{ltb}
 use lib.IntN.{ℤ, pos, negsuc}
 
@@ -32,3 +32,14 @@ minus = 45
 unfoldable pub signedDecimal : ℤ → List ℕ
 signedDecimal (pos n) = decimal n
 signedDecimal (negsuc n) = minus ∷ decimal (suc n)
+
+-- ---- read back
+
+-- n, and then the digits of a list
+abbrev pub numberFrom : ℕ → List ℕ → ℕ
+numberFrom n [] = n
+numberFrom n (b ∷ bytes) = numberFrom (n * 10 + (b - 48)) bytes
+
+-- the number whose digits these are
+abbrev pub numberOf : List ℕ → ℕ
+numberOf bytes = numberFrom 0 bytes

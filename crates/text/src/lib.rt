@@ -6,7 +6,7 @@ ghost use Prim.Native.Nat.{_+_, _*_, _<_, _≤_};
 ghost use lib.ListN.{length};
 ghost use Rattle.text.specs.Decimal.{digit, decimal, signedDecimal};
 ghost use Rattle.text.specs.Lines.{rowLine, rowWords, rowsText, totalsLine, refusedLine, listingText};
-ghost use Rattle.slices.specs.Written.{Writes, WritesAtMost};
+ghost use Rattle.slices.specs.Written.{PutsBefore, Writes, WritesAtMost};
 
 // The byte of a digit.
 fn digit_byte(value: u64) -> u8
@@ -29,12 +29,11 @@ pub fn places(value: u64) -> usize
     count
 }
 
-// A number, its last digit first.
-pub fn put_decimal(out: &mut [u8], at: usize, value: u64) -> usize
-    requires { ⌜ at + length (decimal value) ≤ length (now out) ⌝ }
-    ensures { λ r. ⌜ Writes (now (out .entry)) at (decimal value) (now (out .exit)) r ⌝ }
+// A number up to a position, its last digit first; answers the position of the first one.
+pub fn put_decimal_before(out: &mut [u8], end: usize, value: u64) -> usize
+    requires { ⌜ (length (decimal value) ≤ end) × (end ≤ length (now out)) ⌝ }
+    ensures { λ r. ⌜ PutsBefore (now (out .entry)) end (decimal value) (now (out .exit)) r ⌝ }
 {
-    let end = at + places(value);
     let mut last = end - 1;
     let mut rest = value;
     while rest >= 10 {
@@ -43,6 +42,16 @@ pub fn put_decimal(out: &mut [u8], at: usize, value: u64) -> usize
         last -= 1;
     }
     out[last] = digit_byte(rest);
+    last
+}
+
+// A number.
+pub fn put_decimal(out: &mut [u8], at: usize, value: u64) -> usize
+    requires { ⌜ at + length (decimal value) ≤ length (now out) ⌝ }
+    ensures { λ r. ⌜ Writes (now (out .entry)) at (decimal value) (now (out .exit)) r ⌝ }
+{
+    let end = at + places(value);
+    put_decimal_before(out, end, value);
     end
 }
 
@@ -58,6 +67,19 @@ pub fn put_signed(out: &mut [u8], at: usize, value: i64) -> usize
     } else {
         put_decimal(out, at, number)
     }
+}
+
+// A signed number up to a position; answers the position of its first character.
+pub fn put_signed_before(out: &mut [u8], end: usize, value: i64) -> usize
+    requires { ⌜ (length (signedDecimal value) ≤ end) × (end ≤ length (now out)) ⌝ }
+    ensures { λ r. ⌜ PutsBefore (now (out .entry)) end (signedDecimal value) (now (out .exit)) r ⌝ }
+{
+    let first = put_decimal_before(out, end, exact::magnitude(value));
+    if value < 0 {
+        out[first - 1] = b'-';
+        return first - 1;
+    }
+    first
 }
 
 // A text as it stands.

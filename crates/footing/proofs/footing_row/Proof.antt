@@ -1,7 +1,7 @@
 -- `footing::footing_row` meets its contract: each operand is read back as it stands, and each path is one of the two rows. Assumes nothing.
 use mathlib.Core.Path.{_≡_, ap, _∙_, subst}
 use mathlib.Core.Bool.{true}
-use Prim.Native.Nat.{_≤_, _<_}
+use Prim.Native.Nat.{_≤_}
 use native.Mathlib.Omega.{arith}
 use lib.IntN.{ℤ, pos, natAbs}
 use lib.Signed.{leZ}
@@ -75,9 +75,8 @@ force-le c =
     let s = start (from-then c) in
     let v = s .args .f .nv in
     let e = s .args .f .ne in
-    subst (λ (x : Fraction). Heavy (action (s .args .minus) x v e) → natAbs (downS (action (s .args .minus) x v e)) ≤ 500000000) (s .pre .1)
+    subst (λ (x : Fraction). natAbs (downS (action (s .args .minus) x v e)) ≤ 500000000) (s .pre .1)
     (normal-le (s .args .minus) (s .args .a) v e (plain s v e (s .pre .0 .nv) (s .pre .0 .ne)))
-    (heavily c)
 
 horizontally : (c : tie.After-action-size) →
     c .action-size .result
@@ -160,7 +159,7 @@ heavy-row-requires c κs =
     let s = start d in
     let f = s .args .f in
     let n = natAbs (downS (normal-at d)) in
-    let positive : 0 < n = omega (arith, heavily t .force .least) in
+    let least = heavily t .force .least in
     rw (force d)
     (record {
       operands = s .pre .0;
@@ -169,10 +168,10 @@ heavy-row-requires c κs =
       normal = force-le t;
       along-breadth =
           rw (along-breadth (c .before .before .before))
-          (eccentricity-le (upF (size (momentB (s .args .settings) f (s .args .minus)))) n positive (size-bound s (f .xv) (f .xe) (s .pre .0 .xv) (s .pre .0 .xe)));
+          (omega (arith, eccentricity-le (upF (size (momentB (s .args .settings) f (s .args .minus)))) n least (size-bound s (f .xv) (f .xe) (s .pre .0 .xv) (s .pre .0 .xe))));
       along-length =
           rw (along-length c)
-          (eccentricity-le (upF (size (momentL (s .args .settings) f (s .args .minus)))) n positive (size-bound s (f .yv) (f .ye) (s .pre .0 .yv) (s .pre .0 .ye)));
+          (omega (arith, eccentricity-le (upF (size (momentL (s .args .settings) f (s .args .minus)))) n least (size-bound s (f .yv) (f .ye) (s .pre .0 .yv) (s .pre .0 .ye))));
       horizontal = horizontal-le (t .before);
     })
 

@@ -1,35 +1,18 @@
--- `report::listing_text` meets its contract, by the number of the job's bytes. Assumes nothing.
-use Rattle.report.proofs.Answers.{at-most, long-listing, whole-listing}
-use native.Mathlib.Omega.{arith}
+-- `report::listing_text` meets its contract: what is printed is the listing. Assumes nothing.
 use borrow.Author.Needs.{needs}
+use Rattle.report.specs.Listing.{listingOf}
 use Rattle.report.proofs.listing_text.Statement.{statement}
 use Rattle.report.proofs.listing_text.Tie as tie
 
-put-refused-requires : tie.Need-put-refused-requires
-put-refused-requires c κs = search needs
+printed-text-requires : tie.Need-printed-text-requires
+printed-text-requires c κs = search needs
 
 same-length : tie.Need-same-length
 same-length c = search needs
 
 returns : tie.Need-returns
-returns c =
-    let f = c .before .before in
-    let i = f .before .before in
-    rw (long-listing (i .before .before .before .args .job .now) (omega (arith, i .if1 .taken))) (at-most (f .put-refused .ensures) (omega arith))
-
-put-job-requires : tie.Need-put-job-requires
-put-job-requires c κs = search needs
-
-same-length-2 : tie.Need-same-length-2
-same-length-2 c = search needs
-
-returns-2 : tie.Need-returns-2
-returns-2 c =
-    let f = c .before .before in
-    let i = f .before .before .before in
-    rw (whole-listing (i .before .before .before .args .job .now) (omega (arith, i .if1 .left))) (f .put-job .ensures)
+unfolding listingOf
+returns c = c .before .before .printed-text .ensures
 
 pub listing-text-spec : {M : Type 1} → statement M
-listing-text-spec =
-    tie.close
-    (tie.spec put-refused-requires same-length returns put-job-requires same-length-2 returns-2)
+listing-text-spec = tie.close (tie.spec printed-text-requires same-length returns)

@@ -1,10 +1,15 @@
 -- `report::put_job` meets its contract, in each of run's three answers. Assumes nothing.
-use mathlib.Core.Path.{_≡_, sym, ap, _∙_}
+use mathlib.Core.Path.{_≡_, sym, ap, _∙_, subst}
+use mathlib.Core.Bool.{false}
+use mathlib.Core.List.{List}
 use native.Mathlib.Omega.{arith}
+use lib.IntN.{ℤ}
 use lib.ListN.{length}
 use Rattle.job.specs.Placed.{placed}
-use Rattle.capacity.specs.Calls.{runAnswer}
-use Rattle.report.proofs.Answers.{Listed, refused-listing, short-listing, rows-listing, at-most}
+use Rattle.job.specs.Answers.{rowsAnswer}
+use Rattle.printing.specs.Answers.{pageTooWide}
+use Rattle.capacity.specs.Calls.{runAnswer, runOf}
+use Rattle.report.proofs.Answers.{Shown, refused-text, short-text, rows-text, narrow-rows, at-most}
 use borrow.Author.Needs.{needs}
 use Rattle.report.proofs.put_job.Statement.{statement}
 use Rattle.report.proofs.put_job.Tie as tie
@@ -15,22 +20,45 @@ run-requires c κs = search needs
 enum-known-ran : tie.Need-enum-known-ran
 enum-known-ran c = search needs
 
--- the words that `run` left
-listed : (c : tie.After-known-told) → Listed (placed (c .before .before .before .before .before .before .before .args .job .now)) (c .before .ran .given .0 .0) (c .before .before .before .run .last .1 .0)
-listed c =
-    let m = c .before in
-    let r = m .before .before in
-    let s = r .before .before .before .before in
-    let n : length (s .args .rows .now) ≡ 8192 = search needs in
-    let k : length (r .run .last .1 .0) ≡ 8192 = search needs in
-    let e = sym (ap runAnswer (m .ran .given .1)) ∙ r .run .ensures .0 in
-    rw (r .run .ensures .1 .0) (rows-listing (s .args .job .now) _ (s .args .rows .now) n (rw (r .run .ensures .1 .0) at k) (rw n at e))
+-- the place after the call of `run`, and the start
+abbrev ended : tie.After-known-told → tie.After-run
+ended c = c .before .before .before
 
-put-rows-requires : tie.Need-put-rows-requires
-put-rows-requires c κs =
+abbrev start : tie.After-run → tie.Start
+start r = r .before .before .before .before
+
+-- the rows that `run` left: what is printed of them, and that no value is too wide for a page
+module _ (c : tie.After-known-told) where
+  lent : length (start (ended c) .args .rows .now) ≡ 8192
+  lent = search needs
+
+  kept : length (ended c .run .last .1 .0) ≡ 8192
+  kept = search needs
+
+  answered : rowsAnswer (c .before .ran .given .0 .0) ≡ runOf (start (ended c) .args .job .now) 8192
+  answered =
+      let r = ended c in
+      rw lent at (sym (ap runAnswer (c .before .ran .given .1)) ∙ r .run .ensures .0)
+
+  shown : Shown (start (ended c) .args .paged) (placed (start (ended c) .args .job .now)) (c .before .ran .given .0 .0) (ended c .run .last .1 .0)
+  shown =
+      let r = ended c in
+      let s = start r .args in
+      let e = r .run .ensures .1 .0 in
+      subst (Shown (s .paged) (placed (s .job .now)) (c .before .ran .given .0 .0)) (sym e) (rows-text (s .paged) (s .job .now) _ (s .rows .now) lent (sym (ap length e) ∙ kept) answered)
+
+  narrow : pageTooWide (ended c .run .last .1 .0) (c .before .ran .given .0 .0) ≡ false
+  narrow =
+      let r = ended c in
+      let s = start r .args in
+      subst (λ (words : List ℤ). pageTooWide words (c .before .ran .given .0 .0) ≡ false) (sym (r .run .ensures .1 .0)) (narrow-rows (s .job .now) (λ k. r .before .before .before .shared-slice-known .given k .fits) _ (s .rows .now) lent answered)
+
+put-text-requires : tie.Need-put-text-requires
+put-text-requires c κs =
     let k = c .before .before .before in
-    let g = listed k in
-    (omega (arith, g .few), omega (arith, g .few, c .before .before .before .before .before .before .before .before .before .before .pre))
+    let g = shown k in
+    let p = start (ended k) .pre in
+    (omega (arith, g .few, kept k), narrow k, omega (arith, g .few, p))
 
 enum-known-ran-2 : tie.Need-enum-known-ran-2
 enum-known-ran-2 c = search needs
@@ -53,9 +81,8 @@ same-length c = search needs
 returns : tie.Need-returns
 returns c =
     let f = c .before .before in
-    let l = f .before .before .before in
-    let g = listed (l .before) in
-    rw (g .listing) (at-most (f .put-rows .ensures) (omega (arith, g .few)))
+    let g = shown (f .before .before .before .before) in
+    rw (g .text) (at-most (f .put-text .ensures) (omega (arith, g .few)))
 
 same-length-2 : tie.Need-same-length-2
 same-length-2 c = search needs
@@ -68,7 +95,7 @@ returns-2 c =
     let s = r .before .before .before .before in
     let n : length (s .args .rows .now) ≡ 8192 = search needs in
     let e = sym (ap runAnswer (m .ran2 .given .1)) ∙ r .run .ensures .0 in
-    rw (refused-listing (s .args .job .now) _ _ (rw n at e)) (at-most (rw (f .before .wide .ensures) at (f .put-refused .ensures)) (omega arith))
+    rw (refused-text (s .args .paged) (s .args .job .now) _ _ (rw n at e)) (at-most (rw (f .before .wide .ensures) at (f .put-refused .ensures)) (omega arith))
 
 same-length-3 : tie.Need-same-length-3
 same-length-3 c = search needs
@@ -81,7 +108,7 @@ returns-3 c =
     let s = r .before .before .before .before in
     let n : length (s .args .rows .now) ≡ 8192 = search needs in
     let e = sym (ap runAnswer (m .ran3 .given .1)) ∙ r .run .ensures .0 in
-    rw (short-listing (s .args .job .now) _ (rw n at e)) (at-most (f .put-refused2 .ensures) (omega arith))
+    rw (short-text (s .args .paged) (s .args .job .now) _ (rw n at e)) (at-most (f .put-refused2 .ensures) (omega arith))
 
 pub put-job-spec : {M : Type 1} → statement M
 put-job-spec =
@@ -89,7 +116,7 @@ put-job-spec =
     (tie.spec
     run-requires
     enum-known-ran
-    put-rows-requires
+    put-text-requires
     enum-known-ran-2
     wide-requires
     put-refused-requires

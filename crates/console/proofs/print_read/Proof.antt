@@ -1,4 +1,4 @@
--- `listing::list` is safe: what was read lies within the buffer. Assumes nothing.
+-- `console::print_read` is safe: what was read lies within the buffer. Assumes nothing.
 use mathlib.Core.Path.{sym, subst}
 use Prim.Native.Nat.{_≤_}
 use lib.ListN.{length}
@@ -6,17 +6,14 @@ use lib.Seq.{length-take-le}
 use Rattle.input.specs.declared.Input.{Input}
 use Rattle.input.specs.Reading.{bytesRead}
 use borrow.Author.Needs.{needs}
-use Rattle.listing.proofs.list.Statement.{statement}
-use Rattle.listing.proofs.list.Tie as tie
+use Rattle.console.proofs.print_read.Statement.{statement}
+use Rattle.console.proofs.print_read.Tie as tie
 
 read-all-requires : tie.Need-read-all-requires
 read-all-requires c κs = search needs
 
 enum-told : tie.Need-enum-told
 enum-told c = search needs
-
-slice-aggregate-fail : tie.Need-slice-aggregate-fail
-slice-aggregate-fail c = search needs
 
 fail-requires : tie.Need-fail-requires
 fail-requires c κs = search needs
@@ -29,20 +26,20 @@ within c =
     let m = c .before in
     subst (λ (r : Input). bytesRead r ≤ length (m .before .before .before .before .read-all .last .1 .0)) (m .read .given .1) (m .before .before .before .before .read-all .ensures)
 
-slice-reshare-prefix-print-listing : tie.Need-slice-reshare-prefix-print-listing
-slice-reshare-prefix-print-listing c = within c
+slice-reshare-prefix-print-text : tie.Need-slice-reshare-prefix-print-text
+slice-reshare-prefix-print-text c = within c
 
-slice-aggregate-print-listing : tie.Need-slice-aggregate-print-listing
-slice-aggregate-print-listing c =
+slice-aggregate-print-text : tie.Need-slice-aggregate-print-text
+slice-aggregate-print-text c =
     let k = c .before in
     let m = k .before in
     sym (length-take-le (m .read .given .0 .0) (m .before .before .before .before .read-all .last .1 .0) (within k))
 
-slice-aggregate-print-listing-2 : tie.Need-slice-aggregate-print-listing-2
-slice-aggregate-print-listing-2 c = search needs
+slice-aggregate-print-text-2 : tie.Need-slice-aggregate-print-text-2
+slice-aggregate-print-text-2 c = search needs
 
-print-listing-requires : tie.Need-print-listing-requires
-print-listing-requires c κs = search needs
+print-text-requires : tie.Need-print-text-requires
+print-text-requires c κs = search needs
 
 same-length : tie.Need-same-length
 same-length c = search needs
@@ -56,19 +53,18 @@ same-length-2 c = search needs
 returns-2 : tie.Need-returns-2
 returns-2 c = search needs
 
-pub list-spec : {M : Type 1} → statement M
-list-spec =
+pub print-read-spec : {M : Type 1} → statement M
+print-read-spec =
     tie.close
     (tie.spec
     read-all-requires
     enum-told
-    slice-aggregate-fail
     fail-requires
     enum-known-read
-    slice-reshare-prefix-print-listing
-    slice-aggregate-print-listing
-    slice-aggregate-print-listing-2
-    print-listing-requires
+    slice-reshare-prefix-print-text
+    slice-aggregate-print-text
+    slice-aggregate-print-text-2
+    print-text-requires
     same-length
     returns
     same-length-2
