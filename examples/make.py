@@ -77,6 +77,28 @@ def turned(value):
     return struct.unpack(">f", struct.pack("<f", value))[0]
 
 
+# A wall of forty storeys of 3.2 m above its base, 7,500 mm long: of every five storeys the thickness, VR and MS.
+FIVES = ((500, 1900000, 76000000), (500, 1500000, 72000000), (500, 1200000, 52000000), (400, 900000, 35000000),
+         (400, 650000, 26000000), (400, 600000, 24000000), (300, 540000, 22000000), (300, 500000, 22000000))
+
+
+def shear(storey):
+    """The seismic shear of a storey of this wall in whole kN, from 1,000 at the base (0) to 101 at the top (40)."""
+    return 1000 * round(100 + 900 * ((41 - storey) / 41) ** 2)
+
+
+def moment(storey):
+    """The seismic moment at its foot: the shears from there up, each over 3.2 m."""
+    return sum(map(shear, range(storey, 41))) * 32 // 10
+
+
+def tall(storey):
+    """The operands of a storey. The inertia is thickness · length³ / 12, in cm⁴."""
+    thickness, VR, MS = FIVES[(storey - 1) // 5]
+    J, J0 = (side * 7500 ** 3 // 120000 for side in (thickness, 500))
+    return dict(ME=moment(storey), VE=shear(storey), J=J, J0=J0, VR=VR, MS=MS)
+
+
 STRENGTHS = "R1plus R2plus R1minus R2minus"
 TANGENT_35, RADIANS_35 = 0.70020754, 0.61086524
 
@@ -113,6 +135,15 @@ JOBS = {
         command("storey", "wall W1, storey 3", ME=1300000, VE=680000, J=106666667, J0=133333333, VR=2000000, MS=4000000),
         command("storey", "wall W1, storey 4", ME=600000, VE=430000, J=106666667, J0=133333333, VR=1400000, MS=3000000),
         command("storey", "wall W1, storey 5", ME=150000, VE=160000, J=45000000, J0=133333333, VR=800000, MS=2200000),
+    ],
+    # A wall of forty storeys, then a low one of the same section, whose storey 1 has the operands of storey 39 of the first.
+    "tower": [
+        SETTINGS,
+        command("wall_base", "wall W1, base", length=7500, thickness=500, MR=76000000, ME=moment(0), VE=shear(0), VR=2000000),
+        *(command("storey", f"wall W1, storey {storey}", **tall(storey)) for storey in range(1, 41)),
+        command("wall_base", "wall W2, base", length=7500, thickness=500, MR=24000000, ME=1065600, VE=130000, VR=800000),
+        command("storey", "wall W2, storey 1, like storey 39 of W1", **tall(39)),
+        command("storey", "wall W2, storey 2", **tall(40) | dict(VR=400000)),
     ],
     # Footings on a granular soil, on a cohesive sensitive one, and a light one.
     "footings": [

@@ -1,7 +1,8 @@
 //! Times the proved library against the reference, both built for release, on the same jobs in one process with warm buffers; in
 //! writing commands and printing pages against plain Rust (tests/plain.rs), on the same values, each command behind the last.
-//! Arguments: rounds, of which the best counts; one call, where not all are wanted (run, size, fault, total, take-down, write, page).
-//! Prints tables in markdown: ns a command (a row, a value) of both, and the ratio.
+//! Arguments: rounds, of which the best counts; one call, where not all are wanted (run, size, fault, total, take-down, write, page), or
+//! walls: run for a wall of forty storeys beside forty walls of one.
+//! Prints tables in markdown: ns a command (a row, a value, a job) of both, and the ratio.
 //! Assumes nothing. After `rt staticlib capacity_c`, built at the root of the repository by
 //! rustc --edition 2021 -O -L target/staticlib -o target/tests/benchmark tests/benchmark.rs.
 
@@ -40,6 +41,11 @@ const CALLS: [(&str, &str, Both); 4] = [
     ("total", "row", total),
 ];
 
+/// The example whose first wall has forty storeys, and how often this wall is written.
+const TOWER: &[u8] = include_bytes!("../examples/tower.job");
+const STOREYS: usize = 40;
+const TIMES: usize = 50;
+
 /// The rows of a page, and the most.
 const PAGES: [usize; 4] = [10, 100, 1024, 4096];
 const PRINTED: usize = 4096;
@@ -77,8 +83,11 @@ fn main() {
     let picked = arguments.next();
     let wanted = |call: &str| picked.as_deref().is_none_or(|name| name == call);
     let calls = CALLS.iter().map(|(call, ..)| *call);
-    if !calls.chain(["take-down", "write", "page"]).any(wanted) {
-        eprintln!("the calls are run, size, fault, total, take-down, write, page");
+    if !calls
+        .chain(["take-down", "write", "page", "walls"])
+        .any(wanted)
+    {
+        eprintln!("the calls are run, size, fault, total, take-down, write, page; or walls");
         std::process::exit(2);
     }
     for (call, unit, both) in CALLS.into_iter().filter(|(call, ..)| wanted(call)) {
@@ -112,6 +121,12 @@ fn main() {
             }
         }
     }
+    if wanted("walls") {
+        println!("\n| walls, ns | walls of storeys | library | reference | ratio |\n|---|---:|---:|---:|---:|");
+        for (timed, shape, ns) in walls(rounds) {
+            print(timed, shape, ns);
+        }
+    }
 }
 
 fn print(name: &str, count: &str, [library, reference]: [f64; 2]) {
@@ -121,23 +136,26 @@ fn print(name: &str, count: &str, [library, reference]: [f64; 2]) {
     );
 }
 
-/// Some jobs of a kind and the rows of the longest; about 4,096 commands together.
+/// Some jobs of a kind and the rows of the longest; at most some 4,096 commands together. The time is divided by the units.
 struct Jobs {
     jobs: Vec<Vec<u8>>,
-    commands: usize,
+    units: usize,
     rows: Vec<i64>,
 }
 
 impl Jobs {
+    /// By commands.
     fn new(commands: usize, mix: &Mix) -> Jobs {
         let mut random = Random::new(1);
         let count = (4096 / commands).max(1);
-        let jobs: Vec<Vec<u8>> = (0..count)
-            .map(|_| generate::valid(&mut random, commands, mix))
-            .collect();
+        let jobs = (0..count).map(|_| generate::valid(&mut random, commands, mix));
+        Jobs::by(count * commands, jobs.collect())
+    }
+
+    fn by(units: usize, jobs: Vec<Vec<u8>>) -> Jobs {
         Jobs {
             jobs,
-            commands: count * commands,
+            units,
             rows: vec![0; 2 * 4096 * reference::ROW],
         }
     }
@@ -158,16 +176,59 @@ fn run(rounds: usize, jobs: &Jobs) -> [f64; 2] {
     let mut other = jobs.rows.clone();
     race(
         rounds,
-        jobs.commands,
+        jobs.units,
         || jobs.each(|job| keep(library::run(job, &mut rows))),
         || jobs.each(|job| keep(reference::run(job, &mut other))),
     )
 }
 
+/// The storeys of the tall wall with its base before every so many, 40 for one wall and 1 for forty; of these commands those wanted.
+fn tall_wall(every: usize, wanted: &[u8]) -> Vec<u8> {
+    let commands = generate::split(TOWER);
+    let storeys = commands[2..][..STOREYS].chunks(every);
+    let walls = storeys.flat_map(|storeys| [&commands[1..2], storeys].concat());
+    walls
+        .filter(|command| wanted.contains(&command[0]))
+        .flatten()
+        .collect()
+}
+
+/// ns a job, of so many with the settings, these walls and the end.
+fn run_walls(rounds: usize, count: usize, walls: &[u8]) -> [f64; 2] {
+    let job = [&generate::split(TOWER)[0], walls, &[0]].concat();
+    run(rounds, &Jobs::by(count, vec![job; count]))
+}
+
+/// A wall of forty storeys beside forty walls of one: what is timed, in how many walls of how many storeys, and its ns.
+/// In a long job the storeys take its time less that of its bases alone. The table of cubes, which the library makes once a job with
+/// storeys, is spread over all of them there; a short job has it whole.
+fn walls(rounds: usize) -> [(&'static str, &'static str, [f64; 2]); 6] {
+    let shapes = [STOREYS, 1];
+    let long = |wall: Vec<u8>| run_walls(rounds, 1, &wall.repeat(TIMES));
+    let [few, many] = shapes.map(|every| long(tall_wall(every, &[6])));
+    let [tall, low] = shapes.map(|every| long(tall_wall(every, &[6, 7])));
+    let [one, forty] = shapes.map(|every| run_walls(rounds, TIMES, &tall_wall(every, &[6, 7])));
+    let each = |more, less| apart(more, less, STOREYS * TIMES);
+    let further = apart(forty, one, STOREYS - 1);
+    [
+        ("wall base", "2000 of 0", each(many, [0.0; 2])),
+        ("storey of a tall wall", "50 of 40", each(tall, few)),
+        ("storey of a low wall", "2000 of 1", each(low, many)),
+        ("job of one tall wall", "1 of 40", one),
+        ("job of forty low walls", "40 of 1", forty),
+        ("each of its 39 further bases", "", further),
+    ]
+}
+
+/// The further time of the first of two, by units.
+fn apart(more: [f64; 2], less: [f64; 2], units: usize) -> [f64; 2] {
+    [0, 1].map(|side| (more[side] - less[side]) / units as f64)
+}
+
 fn size(rounds: usize, jobs: &Jobs) -> [f64; 2] {
     race(
         rounds,
-        jobs.commands,
+        jobs.units,
         || jobs.each(|job| keep(library::size(job))),
         || jobs.each(|job| keep(reference::size(job))),
     )
@@ -176,7 +237,7 @@ fn size(rounds: usize, jobs: &Jobs) -> [f64; 2] {
 fn fault(rounds: usize, jobs: &Jobs) -> [f64; 2] {
     race(
         rounds,
-        jobs.commands,
+        jobs.units,
         || jobs.each(|job| keep(library::fault(job))),
         || jobs.each(|job| keep(reference::fault(job))),
     )

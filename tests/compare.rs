@@ -11,7 +11,7 @@ mod rounds;
 
 use generate::{Mix, Random};
 use reference::{Fault, Refusal, ROW};
-use rounds::MANY;
+use rounds::{hexadecimal, MANY};
 
 /// Words before and after the rows that a call is lent.
 const GUARD: usize = 16;
@@ -101,10 +101,6 @@ impl std::fmt::Display for Tally {
         )?;
         (1..10).try_for_each(|number| write!(out, " {number}: {}", self.refused[number]))
     }
-}
-
-fn hexadecimal(job: &[u8]) -> String {
-    job.iter().map(|byte| format!("{byte:02x}")).collect()
 }
 
 // The jobs.

@@ -1,5 +1,5 @@
-//! Pseudo-random jobs of documents 01 and 02: valid ones, with joints given again too, ones with strengths at the demand, ones with
-//! operands out of range, damaged ones, noise; single commands by their values; and words of rows.
+//! Pseudo-random jobs of documents 01 and 02: valid ones, with joints given again too, ones of walls, ones with strengths at the demand,
+//! ones with operands out of range, damaged ones, noise; single commands by their values; and words of rows.
 //! Assumes nothing; the same seed gives the same jobs.
 
 #![allow(dead_code, unused_imports)]
@@ -52,6 +52,17 @@ pub fn valid(random: &mut Random, commands: usize, mix: &Mix) -> Vec<u8> {
     for _ in 1..commands {
         let code = mix.draw(writer.values.random);
         writer.command(code);
+    }
+    writer.job.push(0);
+    writer.job
+}
+
+/// An accepted job of walls: settings, then for each number a wall base and so many storeys.
+pub fn walls(random: &mut Random, storeys: &[usize]) -> Vec<u8> {
+    let mut writer = Writer::begin(random);
+    for &count in storeys {
+        writer.command(6);
+        (0..count).for_each(|_| writer.command(7));
     }
     writer.job.push(0);
     writer.job
@@ -394,7 +405,7 @@ fn rearrange(random: &mut Random, job: &mut Vec<u8>) {
 }
 
 /// The commands of a job that is not empty; whatever no longer reads as a command stays in one piece.
-fn split(job: &[u8]) -> Vec<Vec<u8>> {
+pub fn split(job: &[u8]) -> Vec<Vec<u8>> {
     let mut commands = Vec::new();
     let mut rest = job;
     while let Some(&code) = rest.first() {

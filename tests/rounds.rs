@@ -1,4 +1,4 @@
-//! The rounds of a random comparison: how many there are, from which seed they are drawn, and how often each case was met.
+//! The rounds of a random comparison: how many there are, from which seed they are drawn, how often each case was met, and a job as text.
 //! Assumes nothing.
 
 #![allow(dead_code)]
@@ -43,4 +43,8 @@ impl Met {
         eprintln!("{} cases met; the rarest {rarest:?}", self.0.len());
         println!("{rounds} {what} agree");
     }
+}
+
+pub fn hexadecimal(job: &[u8]) -> String {
+    job.iter().map(|byte| format!("{byte:02x}")).collect()
 }

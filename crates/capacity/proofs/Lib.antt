@@ -1,5 +1,5 @@
 -- Demand 3 for a whole job; what `run` gives twice and on a longer slice; how large its words are, and their page;
--- joints given again; jobs and the call `write`; its verdicts at their bounds.
+-- joints given again; the words of a storey; jobs and the call `write`; its verdicts at their bounds.
 mod Ranges
 mod RowsTrue
 pub mod RowsSized
@@ -9,5 +9,6 @@ mod Runs
 pub mod SameWords
 pub mod PageOfRun
 pub mod Revised
+pub mod StoreyWords
 pub mod WrittenAgain
 pub mod Edges

@@ -23,7 +23,7 @@ use Rattle.context.specs.Context.{Context, nothing, next, withJoint}
 use Rattle.job.specs.Faults.{testsAt, afterCommand}
 use Rattle.job.specs.Placed.{Placed, Job, refused, accepted, before, placedBy, placed}
 use Rattle.job.proofs.PlacedCases.{placedAt, restAfter, by-cases}
-use Rattle.job.proofs.Simulation.{faultless}
+use Rattle.job.proofs.Faultless.{faultless}
 
 -- what holds is in range
 pub record ContextRange (h : Context) : Type 0 where

@@ -18,6 +18,7 @@ use Rattle.members.specs.declared.Hingeless.{Hingeless}
 use Rattle.members.specs.Hingeless.{hingelessRow, hingelessClaims}
 use Rattle.format.specs.declared.Command.the-variants.{Hingeless as hingeless}
 use Rattle.context.specs.Context.{given, missing, absent}
+use Rattle.context.proofs.Shown.{present}
 use Rattle.rows.specs.Rows.{words, rowsWith, rowsOf}
 use Rattle.rows.specs.Writing.{joined}
 use Rattle.job.specs.Faults.{testsAt, misplaced}
@@ -26,7 +27,7 @@ use Rattle.job.specs.Answers.{rowsAnswer, sizeFrom, sizeOf, faultIn, faultOf}
 use Rattle.job.specs.Earlier.{latestJoint, endingBy}
 use Rattle.job.proofs.AcceptedLaws.{accepted-each}
 use Rattle.job.proofs.AcceptedBefore.{with7, accepted-before}
-use Rattle.job.proofs.LatestJoint.{latest-joint}
+use Rattle.job.proofs.Latest.{latest-joint}
 use Rattle.job.proofs.AlreadyMet.{met-rows-first, same-met-rows}
 use Rattle.job.proofs.RefusedLaws.{never-seven}
 use Rattle.capacity.specs.Calls.{tooShortAnswer, runFrom, runOf, rowsFrom, rowsAfter}
@@ -66,11 +67,6 @@ pub record Counted (earlier : List Placed) (p : Placed) (id1 id2 : ℕ) (m : Hin
   pub rows : rowsAt p ≡ words (p .offset) 5 (hingelessRow settings joint1 joint2 m) ∷ []
   pub claims : claimsOf p ≡ (λ r. Hold (hingelessClaims settings joint1 joint2 m r)) ∷ []
 
--- what is not missing is there
-there : {A : Type 0} (o : Option A) → missing o ≡ false → (a : A) × (o ≡ some a)
-there none e = absurd (differ e)
-there (some a) e = (a, refl)
-
 neither : (a b : Bool) → (a || b) ≡ false → (a ≡ false) × (b ≡ false)
 neither true b e = absurd (differ e)
 neither false b e = (refl, e)
@@ -96,10 +92,10 @@ module _ (job : List ℕ) (ps : List Placed) (e : placed job ≡ accepted ps) (e
   unfolding absent
   latest-joints-count id1 id2 m c =
       let t = accepted-each job ps e earlier p later q in
-      let (s, es) = there (p .context .settings) (settings-there (p .context .settings) (rw c at (t .settings))) in
+      let (s, es) = present (p .context .settings) (settings-there (p .context .settings) (rw c at (t .settings))) in
       let n = neither (missing (p .context .joints id1)) (missing (p .context .joints id2)) (rw c at (t .present)) in
-      let (i, ei) = there (p .context .joints id1) (n .0) in
-      let (j, ej) = there (p .context .joints id2) (n .1) in
+      let (i, ei) = present (p .context .joints id1) (n .0) in
+      let (j, ej) = present (p .context .joints id2) (n .1) in
       record {
         settings = s;
         joint1 = i;

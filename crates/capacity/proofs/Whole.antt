@@ -19,7 +19,7 @@ use Rattle.capacity.proofs.RowsTrue.{Pairwise, rows-true}
 use Rattle.capacity.proofs.Written.{joined-length, joined-append}
 
 -- row n behind 8·n words is read back
-read-back : (before after : List ℤ) (n offset byte : ℕ) (r : Row) → length before ≡ 8 * n → rowRead (before ++ (words offset byte r ++ after)) n ≡ r
+pub read-back : (before after : List ℤ) (n offset byte : ℕ) (r : Row) → length before ≡ 8 * n → rowRead (before ++ (words offset byte r ++ after)) n ≡ r
 read-back before after n offset byte r e =
     rw (
       ← e,

@@ -13,9 +13,9 @@ use Rattle.rows.specs.Rows.{rowsOf}
 use Rattle.rows.specs.Writing.{joined}
 use Rattle.rows.proofs.Laws.{Eights, words-eight, storedAll-fits}
 use Rattle.job.specs.Placed.{Placed, Job, accepted, placed, rowsAt, allRows}
-use Rattle.job.specs.Walking.{Final, firstPlace, walkFrom}
+use Rattle.job.specs.Walking.{Final, firstPlace, noJoints, walkFrom}
 use Rattle.job.proofs.Simulation.{Matches}
-use Rattle.job.proofs.Begin.{noJoints, zero-sums, begin-matches}
+use Rattle.job.proofs.Begin.{zero-sums, begin-matches}
 
 eights-append : (xs ys : List (List ℤ)) → Eights xs → Eights ys → Eights (xs ++ ys)
 eights-append [] ys e f = f

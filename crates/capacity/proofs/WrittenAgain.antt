@@ -26,8 +26,9 @@ use Rattle.writing.proofs.Answered.{bytes-width, end-in-range, answer-written, 
 use Rattle.writing.proofs.ReadBack.{written-again}
 use Rattle.writing.proofs.FileReadBack.{end-byte, all-in-range, written-bytes, commands-read, all-and-end}
 use Rattle.job.specs.Placed.{Placed, accepted, placed}
-use Rattle.job.specs.Earlier.{widthOf, contextAfter}
-use Rattle.job.proofs.AcceptedLaws.{Stands, widthsOf, accepted-each, accepted-ends, accepted-widths}
+use Rattle.job.specs.Earlier.{widthOf, widthsOf, contextAfter}
+use Rattle.job.proofs.Reached.{Stands}
+use Rattle.job.proofs.AcceptedLaws.{accepted-each, accepted-ends, accepted-widths}
 
 -- the commands of placed commands
 abbrev pub commandsOf : List Placed → List Command

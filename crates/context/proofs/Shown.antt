@@ -68,6 +68,11 @@ missing-is : {A : Type 0} (o : Option A) → missing o ≡ not (given o)
 missing-is none = refl
 missing-is (some a) = refl
 
+-- what is not missing is there
+pub present : {A : Type 0} (o : Option A) → missing o ≡ false → (a : A) × (o ≡ some a)
+present none e = absurd (differ e)
+present (some a) e = (a, refl)
+
 missing-flag : {A : Type 0} (b : Bool) (o : Option A) → given o ≡ b → missing o ≡ not b
 missing-flag b o e = missing-is o ∙ ap not e
 

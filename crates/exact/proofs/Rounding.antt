@@ -1,5 +1,6 @@
 -- The two laws of each rounding of specs/Quotient.antt: n ≤ up·d < n + d and down·d ≤ n < down·d + d, over ℕ and over ℤ,
--- that a number between those bounds is the rounded one, and how large a rounded number is. Assumes nothing.
+-- that a number between those bounds is the rounded one, that rounding up keeps the order, and how large a rounded number is.
+-- Assumes nothing.
 use mathlib.Core.Path.{_≡_, ap}
 use Prim.Native.Nat.{ℕ, suc, _+_, _-_, _*_, _/_, _≤_, _<_}
 use native.Mathlib.Omega.{arith}
@@ -7,7 +8,9 @@ use native.Mathlib.Nat.{div-mul-le-self, lt-div-mul-add, lt-of-mul-lt-mul-right,
 use lib.IntN.{ℤ, pos, negsuc, negℤ, subℕ, natAbs, _+ℤ_, _*ℤ_}
 use lib.Signed.{_≤ℤ_, _<ℤ_}
 use Rattle.exact.specs.Quotient.{up, down, upℤ, downℤ}
+use Rattle.exact.specs.Fraction.{Fraction, Proper, upF, _≤F_, _≈F_}
 use Rattle.exact.specs.SignedFraction.{SignedFraction, ProperS, above, below, upS, downS}
+use Rattle.exact.proofs.Multiply.{_·_}
 use Rattle.exact.proofs.Integers.{≡-in, ≤ℤ-in, <ℤ-in, above-neg, below-neg, natAbs-neg, natAbs-subℕ, *ℤ-law, +ℤ-law}
 
 -- ---- naturals
@@ -50,6 +53,18 @@ down-is n d r h a b =
     let k : r ≤ down n d = step d r (down n d) (omega (arith, down-lt n d h)) in
     let l : down n d ≤ r = step d (down n d) r (omega (arith, down-le n d)) in
     omega arith
+
+-- of two fractions the smaller is rounded up to no more than the other, and the same number to the same
+pub up-mono : (x y : Fraction) → Proper x → Proper y → x ≤F y → upF x ≤ upF y
+up-mono x y p q h =
+    let c : x .num < suc (upF y * x .den) = lt-of-mul-lt-mul-right (y .den) (omega (arith, h, up-le (y .num) (y .den) q · x .den)) in
+    up-le-of (x .num) (x .den) (upF y) p (omega arith)
+
+pub up-same : (x y : Fraction) → Proper x → Proper y → x ≈F y → upF x ≡ upF y
+up-same x y p q h =
+    let l = up-mono x y p q (omega (arith, h)) in
+    let m = up-mono y x q p (omega (arith, h)) in
+    omega (arith, l, m)
 
 -- ---- integers, by their parts
 

@@ -1,5 +1,6 @@
 -- Fractions over the naturals, never reduced and never rounded. The order is by cross-multiplication, so it says
 -- something only of proper fractions, whose denominators are positive: each exact value has a proof that it is one.
+use mathlib.Core.Path.{_≡_}
 use mathlib.Core.Bool.{Bool, cond}
 use Prim.Native.Nat.{ℕ, _+_, _-_, _*_, _≤_, _<_}
 use lib.Dec.{leb}
@@ -12,7 +13,7 @@ pub record Fraction : Type 0 where
 abbrev pub Proper : Fraction → Type 0
 Proper x = 0 < x .den
 
-infix 50 _≤F_ _<F_
+infix 50 _≤F_ _<F_ _≈F_
 infixl 60 _+F_ _∸F_
 infixl 70 _*F_ _/F_ _÷F_
 abbrev pub whole : ℕ → Fraction
@@ -23,6 +24,10 @@ x ≤F y = x .num * y .den ≤ y .num * x .den
 
 abbrev pub _<F_ : Fraction → Fraction → Type 0
 x <F y = x .num * y .den < y .num * x .den
+
+-- the same number, whatever the terms
+abbrev pub _≈F_ : Fraction → Fraction → Type 0
+x ≈F y = x .num * y .den ≡ y .num * x .den
 
 abbrev pub _+F_ : Fraction → Fraction → Fraction
 x +F y = record { num = x .num * y .den + y .num * x .den; den = x .den * y .den }

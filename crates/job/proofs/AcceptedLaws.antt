@@ -1,8 +1,8 @@
 -- Laws of an accepted job: it begins with settings and ends with its only end, has at most 4,096 other commands, and these
 -- stand one after the other and fill it; what holds at each is what those before it leave. Assumes nothing.
-use mathlib.Core.Path.{_≡_, refl, sym, ap, _∙_, subst}
-use mathlib.Core.Bool.{true, false}
-use mathlib.Core.List.{List, [], _∷_, _++_}
+use mathlib.Core.Path.{_≡_, ap, _∙_, subst}
+use mathlib.Core.Bool.{false}
+use mathlib.Core.List.{List, _∷_, _++_}
 use Prim.Native.Nat.{ℕ, zero, suc, _+_, _-_, _≤_}
 use native.Mathlib.Omega.{arith}
 use native.Mathlib.Nat.{add-zero}
@@ -10,114 +10,52 @@ use lib.Dec.{eqb}
 use lib.ListN.{length}
 use borrow.Author.Tests.{eqb-true, not-false}
 use Rattle.coefficient.specs.declared.Settings.{Settings}
-use Rattle.layout.specs.Layouts.{known, operandsWidth}
 use Rattle.format.specs.declared.Command.{Command}
 use Rattle.format.specs.declared.Command.the-variants.{Settings as settings}
-use Rattle.format.specs.Commands.{byteOf, commandOf, settingsOf, inRange}
+use Rattle.format.specs.Commands.{commandOf, settingsOf}
 use Rattle.layout.specs.Operands.{byteAt, operandsAt}
 use Rattle.format.specs.Reading.{commandAt}
 use Rattle.layout.proofs.OperandsRead.{at}
-use Rattle.format.proofs.CommandRead.{byte-read}
-use Rattle.context.specs.Context.{Context, nothing, next, given, absent}
+use Rattle.context.specs.Context.{Context, nothing, next}
 use Rattle.job.specs.Faults.{afterCommand, testsAt, misplaced}
 use Rattle.job.specs.Placed.{Placed, Job, refused, accepted, before, placedBy, placed}
-use Rattle.job.specs.Earlier.{contextAfter, widthOf}
+use Rattle.job.specs.Earlier.{contextAfter, widthsOf}
 use Rattle.job.proofs.Steps.{count-below}
-use Rattle.job.proofs.Simulation.{Faultless, faultless}
+use Rattle.job.proofs.Faultless.{Faultless, faultless, end-of}
+use Rattle.job.proofs.Reached.{Stands, reached-accepted, reached-each}
 use Rattle.job.proofs.PlacedCases.{faultAt, not-both, placedAt, restAfter, by-cases}
 
--- the bytes of all these commands
-abbrev pub widthsOf : List Placed → ℕ
-widthsOf [] = 0
-widthsOf (p ∷ ps) = widthOf p + widthsOf ps
-
--- a command that stands whole at an offset of a job with this context and is no end; settings are in their place, its operands in
--- range, and what it asks for is given
-pub record Stands (job : List ℕ) (offset : ℕ) (h : Context) (p : Placed) : Type 0 where
-  pub place : p .offset ≡ offset
-  pub read : p .command ≡ commandAt job offset
-  pub known-byte : known (byteAt job offset) ≡ true
-  pub whole : afterCommand job offset ≤ length job
-  pub context : p .context ≡ h
-  pub other : byteOf (p .command) ≡ 0 → ⊥
-  pub settings : misplaced (byteOf (p .command)) (given (p .context .settings)) ≡ false
-  pub range : inRange (p .command) ≡ true
-  pub present : absent (p .context) (p .command) ≡ false
-
--- each of these commands stands where those before it end, with the context that they leave
-abbrev Each : List ℕ → ℕ → Context → List Placed → Type 0
-Each job offset h ps =
-    (earlier : List Placed) (p : Placed) (later : List Placed) → ps ≡ earlier ++ p ∷ later → Stands job (offset + widthsOf earlier) (contextAfter h earlier) p
-
--- the commands from an offset on, after `count` commands, with what holds there
-record Filled (job : List ℕ) (offset count : ℕ) (h : Context) (ps : List Placed) : Type 0 where
+-- the commands from an offset on, after `count` commands
+record Filled (job : List ℕ) (offset count : ℕ) (ps : List Placed) : Type 0 where
   pub few : count + length ps ≤ 4096
   pub widths : offset + widthsOf ps + 1 ≡ length job
   pub last : byteAt job (offset + widthsOf ps) ≡ 0
-  pub each : Each job offset h ps
 
-abbrev Filling : List ℕ → ℕ → ℕ → Context → Job → Type 0
-Filling job offset count h (refused number at) = Unit {0}
-Filling job offset count h (accepted ps) = Filled job offset count h ps
+abbrev Filling : List ℕ → ℕ → ℕ → Job → Type 0
+Filling job offset count (refused number at) = Unit {0}
+Filling job offset count (accepted ps) = Filled job offset count ps
 
 -- one command in front
-module _ (job : List ℕ) (offset count : ℕ) (h : Context) (f : Faultless job offset count h) (z : byteAt job offset ≡ 0 → ⊥) where
-  same-byte : byteOf (commandAt job offset) ≡ byteAt job offset
-  same-byte = byte-read job offset (f .known-byte)
-
-  same-width : operandsWidth (byteOf (commandAt job offset)) ≡ operandsWidth (byteAt job offset)
-  same-width = ap operandsWidth same-byte
-
-  here : Stands job offset h (placedAt job offset h)
-  here =
-      record {
-        place = refl;
-        read = refl;
-        known-byte = f .known-byte;
-        whole = f .whole;
-        context = refl;
-        other = λ e. z (sym same-byte ∙ e);
-        settings = ap (λ (b : ℕ). misplaced b (given (h .settings))) same-byte ∙ f .settings;
-        range = f .range;
-        present = f .present;
-      }
-
-  abbrev after : Context
-  after = next h (commandAt job offset)
-
-  each-more : (ps : List Placed) → Each job (afterCommand job offset) after ps → Each job offset h (placedAt job offset h ∷ ps)
-  each-more ps g [] p later e = let q : placedAt job offset h ≡ p = cc in subst (λ (k : ℕ). Stands job k h p) (sym (add-zero offset)) (subst (Stands job offset h) q here)
-  each-more ps g (x ∷ earlier) p later e =
-      let q : ps ≡ earlier ++ p ∷ later = cc in
-      let r : placedAt job offset h ≡ x = cc in
-      let w : widthOf (placedAt job offset h) ≡ widthOf x = ap widthOf r in
-      let s : afterCommand job offset + widthsOf earlier ≡ offset + widthsOf (x ∷ earlier) = omega (arith, same-width) in
-      let c : contextAfter after earlier ≡ contextAfter h (x ∷ earlier) = ap (λ (y : Placed). contextAfter (next h (y .command)) earlier) r in
-      subst (λ (k : ℕ). Stands job k (contextAfter h (x ∷ earlier)) p) s (subst (λ (k : Context). Stands job (afterCommand job offset + widthsOf earlier) k p) c (g earlier p later q))
-
-  filled-more : (ps : List Placed) → Filled job (afterCommand job offset) (count + 1) after ps → Filled job offset count h (placedAt job offset h ∷ ps)
+module _ (job : List ℕ) (offset count : ℕ) (h : Context) (f : Faultless job offset count h) where
+  filled-more : (ps : List Placed) → Filled job (afterCommand job offset) (count + 1) ps → Filled job offset count (placedAt job offset h ∷ ps)
   filled-more ps g =
-      let s : offset + widthsOf (placedAt job offset h ∷ ps) ≡ afterCommand job offset + widthsOf ps = omega (arith, same-width) in
-      record { few = omega (arith, g .few); widths = omega (arith, g .widths); last = ap (λ (k : ℕ). byteAt job k) s ∙ g .last; each = each-more ps (g .each) }
+      let s : offset + widthsOf (placedAt job offset h ∷ ps) ≡ afterCommand job offset + widthsOf ps = omega (arith, end-of job offset count h f) in
+      record { few = omega (arith, g .few); widths = omega (arith, g .widths); last = ap (λ (k : ℕ). byteAt job k) s ∙ g .last }
 
-  filling-more : (j : Job) → Filling job (afterCommand job offset) (count + 1) after j → Filling job offset count h (before (placedAt job offset h) j)
+  filling-more : (j : Job) → Filling job (afterCommand job offset) (count + 1) j → Filling job offset count (before (placedAt job offset h) j)
   filling-more (refused number at) g = tt
   filling-more (accepted ps) g = filled-more ps g
 
-filling : (n : ℕ) (job : List ℕ) (offset count : ℕ) (h : Context) → count ≤ 4096 → Filling job offset count h (placedBy testsAt n job offset count h)
+filling : (n : ℕ) (job : List ℕ) (offset count : ℕ) (h : Context) → count ≤ 4096 → Filling job offset count (placedBy testsAt n job offset count h)
 unfolding placedBy
 filling zero job offset count h c = tt
 filling (suc n) job offset count h c =
-    by-cases testsAt n job offset count h (Filling job offset count h) (λ l. tt) (λ l k e. tt) (λ l e b m. tt)
-    (λ l e b m. record { few = omega arith; widths = omega arith; last = ap (λ (k : ℕ). byteAt job k) (add-zero offset) ∙ b; each = λ earlier p later q. absurd (no earlier p later q) })
+    by-cases testsAt n job offset count h (Filling job offset count) (λ l. tt) (λ l k e. tt) (λ l e b m. tt)
+    (λ l e b m. record { few = omega arith; widths = omega arith; last = ap (λ (k : ℕ). byteAt job k) (add-zero offset) ∙ b })
     (λ l e b.
     let f = faultless job offset count h e in
-    filling-more job offset count h f b (restAfter testsAt n job offset count h)
+    filling-more job offset count h f (restAfter testsAt n job offset count h)
     (filling n job (afterCommand job offset) (count + 1) (next h (commandAt job offset)) (omega (arith, count-below (byteAt job offset) count b (f .few)))))
-  where
-    no : (earlier : List Placed) (p : Placed) (later : List Placed) → [] ≡ earlier ++ p ∷ later → ⊥
-    no [] p later e = let z : _≡_ {A = ℕ} 0 1 = cc in omega arith
-    no (x ∷ earlier) p later e = let z : _≡_ {A = ℕ} 0 1 = cc in omega arith
 
 -- ---- the first command
 
@@ -154,9 +92,9 @@ begins n job ps =
 -- ---- the laws
 
 module _ (job : List ℕ) (ps : List Placed) (e : placed job ≡ accepted ps) where
-  filled : Filled job 0 0 nothing ps
+  filled : Filled job 0 0 ps
   unfolding placed
-  filled = subst (Filling job 0 0 nothing) e (filling 4097 job 0 0 nothing (omega arith))
+  filled = subst (Filling job 0 0) e (filling 4097 job 0 0 nothing (omega arith))
 
   -- it begins with settings
   pub accepted-begins : BeginsWithSettings ps
@@ -169,9 +107,7 @@ module _ (job : List ℕ) (ps : List Placed) (e : placed job ≡ accepted ps) wh
 
   -- each other command stands in the job where those before it end, and is no end; what holds at it is what they leave
   pub accepted-each : (earlier : List Placed) (p : Placed) (later : List Placed) → ps ≡ earlier ++ p ∷ later → Stands job (widthsOf earlier) (contextAfter nothing earlier) p
-  accepted-each earlier p later q =
-      let s : 0 + widthsOf earlier ≡ widthsOf earlier = omega arith in
-      subst (λ (k : ℕ). Stands job k (contextAfter nothing earlier) p) s (filled .each earlier p later q)
+  accepted-each earlier p later q = reached-each job earlier p later (reached-accepted job ps e ∙ q)
 
   -- there are at most 4,096 of them
   pub accepted-count : length ps ≤ 4096

@@ -12,18 +12,17 @@ use borrow.Author.Tests.{le-leb, lt-leb}
 use Rattle.layout.specs.Layouts.{operandsWidth}
 use Rattle.layout.specs.Operands.{byteAt}
 use Rattle.format.specs.Reading.{commandAt}
-use Rattle.format.proofs.CommandRead.{byte-read}
 use Rattle.context.specs.Context.{Context, nothing, next}
 use Rattle.job.specs.Faults.{testsAt, afterCommand}
 use Rattle.job.specs.Placed.{Placed, Job, refused, accepted, before, placedBy, placed, rowsAt, allRows}
 use Rattle.job.specs.Earlier.{endOf, endingBy}
-use Rattle.job.proofs.Simulation.{faultless}
+use Rattle.job.proofs.Faultless.{faultless, end-of}
 use Rattle.job.proofs.PlacedCases.{faultAt, placedAt, restAfter, by-cases}
 use Rattle.job.proofs.Front.{byte-in-front, command-in-front}
 
 -- a command's own end is where the next one begins
-end-of : (job : List ℕ) (at count : ℕ) (h : Context) → faultAt job at count h ≡ 0 → endOf (placedAt job at h) ≡ afterCommand job at
-end-of job at count h f = omega (arith, ap operandsWidth (byte-read job at (faultless job at count h f .known-byte)))
+ends : (job : List ℕ) (at count : ℕ) (h : Context) → faultAt job at count h ≡ 0 → endOf (placedAt job at h) ≡ afterCommand job at
+ends job at count h f = end-of job at count h (faultless job at count h f)
 
 module _ (limit : ℕ) where
   met : (p : Placed) (ps : List Placed) → endOf p ≤ limit → endingBy limit (p ∷ ps) ≡ p ∷ endingBy limit ps
@@ -48,7 +47,7 @@ module _ (limit : ℕ) where
   beyond (suc n) job at count h l =
       by-cases testsAt n job at count h Beyond (λ w. tt) (λ w k f. tt) (λ w f b m. tt) (λ w f b m. refl)
       (λ w f b.
-      beyond-more (placedAt job at h) (restAfter testsAt n job at count h) (omega (arith, end-of job at count h f))
+      beyond-more (placedAt job at h) (restAfter testsAt n job at count h) (omega (arith, ends job at count h f))
       (beyond n job (afterCommand job at) (count + 1) (next h (commandAt job at)) (omega arith)))
 
   -- ---- the commands that end by the limit are the first
@@ -72,7 +71,7 @@ module _ (limit : ℕ) where
       (λ w f b.
       let after = afterCommand job at in
       first-more (placedAt job at h) (restAfter testsAt n job at count h) (decLe (endOf (placedAt job at h)) limit)
-      (λ l. beyond n job after (count + 1) (next h (commandAt job at)) (omega (arith, end-of job at count h f)))
+      (λ l. beyond n job after (count + 1) (next h (commandAt job at)) (omega (arith, ends job at count h f)))
       (first n job after (count + 1) (next h (commandAt job at))))
 
 -- ---- two jobs alike in front
@@ -121,7 +120,7 @@ module _ (front a b : List ℕ) where
     same-command = command-in-front front at v b ∙ sym (command-in-front front at v a)
 
     held : faultAt (front ++ a) at count h ≡ 0 → endOf (placedAt (front ++ a) at h) ≤ length front
-    held f = omega (arith, end-of (front ++ a) at count h f, ap operandsWidth (byte-in-front front at v a))
+    held f = omega (arith, ends (front ++ a) at count h f, ap operandsWidth (byte-in-front front at v a))
 
     -- both go on with the same command
     both : faultAt (front ++ a) at count h ≡ 0 → Alike (before (placedAt (front ++ a) at h) (restAfter testsAt n (front ++ a) at count h)) (before (placedAt (front ++ b) at h) (restAfter testsAt n (front ++ b) at count h))
@@ -156,7 +155,7 @@ module _ (front a b : List ℕ) where
 
 -- ---- the theorems
 
-rows-of-both : (ps qs : List Placed) → allRows (ps ++ qs) ≡ allRows ps ++ allRows qs
+pub rows-of-both : (ps qs : List Placed) → allRows (ps ++ qs) ≡ allRows ps ++ allRows qs
 unfolding allRows
 rows-of-both [] qs = refl
 rows-of-both (p ∷ ps) qs = ap (λ (xs : List (List ℤ)). rowsAt p ++ xs) (rows-of-both ps qs) ∙ sym (append-assoc (rowsAt p) (allRows ps) (allRows qs))

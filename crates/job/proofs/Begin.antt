@@ -10,22 +10,19 @@ use lib.IntN.{ℤ}
 use lib.ListN.{length, getD, replicate, length-replicate}
 use Rattle.layout.proofs.Numbers.{Bytes}
 use Rattle.context.specs.Context.{nothing}
-use Rattle.context.specs.Running.{roomFor, JointTable, startState, jointGiven, SoundSums}
+use Rattle.context.specs.Running.{roomFor, startState, jointGiven, SoundSums}
 use Rattle.context.proofs.Laws.{start-sound}
 use Rattle.context.proofs.Shown.{Shows}
 use Rattle.job.specs.Placed.{Job, refused, accepted, placed}
 use Rattle.job.specs.Answers.{rowsAnswer, sizeFrom, sizeOf, faultIn, faultOf}
-use Rattle.job.specs.Walking.{Final, firstPlace, walkFrom, WalkAsks, walkedAnswer, walkedFault}
+use Rattle.job.specs.Walking.{Final, firstPlace, noJoints, walkFrom, WalkAsks, walkedAnswer, walkedFault}
+use Rattle.job.proofs.OneCommand.{Going}
 use Rattle.job.proofs.Simulation.{Matches, simulates}
 
 zeros : (n k : ℕ) → _≡_ {A = ℕ} (getD (replicate n 0) k 0) 0
 zeros zero k = refl
 zeros (suc n) zero = refl
 zeros (suc n) (suc k) = zeros n k
-
--- no joint is given, with these sums
-abbrev pub noJoints : List ℕ → JointTable
-noJoints sums = record { given = replicate 256 0; sums = sums }
 
 -- the sums where rows are to be written, and where not
 pub zero-sums : (room : Bool) → SoundSums room (replicate 768 0)
@@ -61,10 +58,14 @@ module _ (room : Bool) (sums : List ℕ) (s : SoundSums room sums) where
   begin-asks job =
       record { state = start-sound; given = length-replicate {A = ℕ} 256 0; sums = s; offset = omega arith; count = omega arith; rows = omega arith }
 
+  pub begin-going : (job : List ℕ) (memory : List ℤ) → Bytes job → roomFor (length memory) ≡ room → Going room 4097 job firstPlace (noJoints sums) memory nothing
+  unfolding firstPlace
+  begin-going job memory b r = record { bytes = b; shows = begin-shows; room-is = r; left = refl; count = omega arith; offset = omega arith }
+
   pub begin-matches : (job : List ℕ) (memory : List ℤ) → Bytes job → roomFor (length memory) ≡ room → Matches job (placed job) (walkFrom room 4097 job firstPlace (noJoints sums) memory) 0 memory
   unfolding firstPlace placed
   begin-matches job memory b r =
-      simulates room 4097 job firstPlace (noJoints sums) memory nothing (record { bytes = b; shows = begin-shows; room-is = r; left = refl; count = omega arith; offset = omega arith })
+      simulates room 4097 job firstPlace (noJoints sums) memory nothing (begin-going job memory b r)
 
 size-of : (job : List ℕ) (j : Job) (f : Final) (memory : List ℤ) → Matches job j f 0 memory → walkedAnswer (f .answer) ≡ sizeFrom j
 size-of job (refused number offset) f memory m = ap walkedAnswer m

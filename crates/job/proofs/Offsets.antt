@@ -10,7 +10,8 @@ use Rattle.layout.proofs.KnownBytes.{known-most}
 use Rattle.format.specs.Commands.{byteOf}
 use Rattle.format.proofs.CommandRead.{byte-read}
 use Rattle.job.specs.Placed.{Placed, accepted, placed}
-use Rattle.job.proofs.AcceptedLaws.{widthsOf, accepted-each, accepted-count}
+use Rattle.job.specs.Earlier.{widthsOf}
+use Rattle.job.proofs.AcceptedLaws.{accepted-each, accepted-count}
 
 widths-le : (ps : List Placed) → widthsOf ps ≤ 58 * length ps
 widths-le [] = omega arith

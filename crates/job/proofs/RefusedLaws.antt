@@ -14,19 +14,19 @@ use Rattle.layout.proofs.Widths.{widths}
 use Rattle.context.specs.Context.{Context, nothing, next, given, absent}
 use Rattle.job.specs.Faults.{unknown, afterCommand, cutShort, tooMany, misplaced, outOfRange, testsAt}
 use Rattle.job.specs.Placed.{Placed, Job, refused, accepted, before, placedBy, placed}
-use Rattle.job.proofs.Simulation.{faultless}
+use Rattle.job.proofs.Faultless.{faultless}
 use Rattle.job.proofs.Front.{byte-in-front, command-in-front, fault-in-front}
 use Rattle.job.proofs.PlacedCases.{faultAt, not-both, placedAt, restAfter, placed-fault, placed-more, placed-goes, by-cases}
 
 -- ---- where a refusal stands, and its number
 
 -- the number of a fault is at most 8, it is not 3, that of bytes after the end, and not 7
-record FaultNumber (n : ℕ) : Type 0 where
+pub record FaultNumber (n : ℕ) : Type 0 where
   pub most : n ≤ 8
   pub other : n ≡ 3 → ⊥
   pub not-seven : n ≡ 7 → ⊥
 
-fault-number : (job : List ℕ) (at count : ℕ) (h : Context) → FaultNumber (faultAt job at count h)
+pub fault-number : (job : List ℕ) (at count : ℕ) (h : Context) → FaultNumber (faultAt job at count h)
 unfolding testsAt
 fault-number job at count h =
     pick (unknown job at) 2 tt tt tt (pick (cutShort job at) 1 tt tt tt (pick (tooMany (byteAt job at) count) 8 tt tt tt (pick (misplaced (byteAt job at) (given (h .settings))) 4 tt tt tt

@@ -5,7 +5,7 @@ use mathlib.Core.List.{List, [], _∷_, _++_, map}
 use Prim.Native.Nat.{ℕ, zero, suc, _+_, _≤_}
 use lib.Dec.{eqb, leb, ltb}
 use lib.IntN.{ℤ}
-use lib.ListN.{length}
+use lib.ListN.{length, replicate}
 use Rattle.layout.specs.Layouts.{known, operandsWidth}
 use Rattle.layout.specs.Operands.{byteAt}
 use Rattle.format.specs.Reading.{commandAt}
@@ -85,6 +85,10 @@ walkFrom room (suc n) job p joints memory =
 -- the start of a job
 unfoldable pub firstPlace : Place
 firstPlace = record { offset = 0; count = 0; rows = 0; state = startState }
+
+-- no joint is given there, with these sums
+abbrev pub noJoints : List ℕ → JointTable
+noJoints sums = record { given = replicate 256 0; sums = sums }
 
 pub record WalkAsks (job : List ℕ) (p : Place) (joints : JointTable) (room : Bool) : Type 0 where
   pub state : SoundState (p .state)

@@ -1,9 +1,10 @@
--- The running values of a wall: those of every base in range are in range, and the rows made from them are the rows of their base.
--- Assumes nothing.
+-- The running values of a wall: those of every base in range are in range, the rows made from them are the rows of their base, and
+-- a storey's row is the same where they are. Assumes nothing.
 use mathlib.Core.Path.{_≡_, refl, ap}
-use Prim.Native.Nat.{ℕ, _*_, _≤_}
+use Prim.Native.Nat.{ℕ, _*_, _≤_, _<_}
 use native.Mathlib.Omega.{arith}
-use Rattle.exact.specs.Fraction.{Fraction, whole, upF, _*F_}
+use Rattle.exact.specs.Fraction.{Fraction, Proper, whole, upF, _*F_, _≈F_}
+use Rattle.exact.proofs.Rounding.{up-same}
 use Rattle.coefficient.specs.declared.Quotient.{Quotient}
 use Rattle.coefficient.specs.Coefficient.{fraction, CoefficientRange}
 use Rattle.coefficient.proofs.Bounds.{proper, num-le, product-le}
@@ -12,7 +13,7 @@ use Rattle.walls.specs.declared.WallBase.{WallBase}
 use Rattle.walls.specs.declared.Storey.{Storey}
 use Rattle.walls.specs.Base.{wallCoefficient, baseShear, baseRowFrom, baseRow, WallBaseRange}
 use Rattle.walls.specs.Storey.{storeyRowFrom, storeyRow}
-use Rattle.walls.specs.Running.{wallOf, WallRange}
+use Rattle.walls.specs.Running.{wallOf, WallRange, SameValues}
 
 -- ---- ranges
 
@@ -57,3 +58,18 @@ pub storey-row-of : (q : ℕ) (b : WallBase) (s : Storey) →
     storeyRowFrom (fraction (wallOf q b .coefficient)) (wallOf q b .shear) (wallOf q b .resistance) s ≡ storeyRow q b s
 unfolding wallOf storeyRow storeyRowFrom
 storey-row-of q b s = refl
+
+-- ---- a storey's row comes from the running values and its operands alone
+
+-- a·x up, from a as a number
+product-same : (a b : Fraction) (x : ℕ) → Proper a → Proper b → a ≈F b → upF (a *F whole x) ≡ upF (b *F whole x)
+product-same a b x p q h = up-same (a *F whole x) (b *F whole x) (omega arith) (omega arith) (omega (arith, ap (λ (n : ℕ). n * x) h))
+
+-- 02, No. 4: "Words 2 to 7 of a storey come from these, MR and its operands alone"
+pub same-storey-row : (w v : Wall) → 0 < w .coefficient .den → 0 < v .coefficient .den → SameValues w v → (s : Storey) →
+    storeyRowFrom (fraction (w .coefficient)) (w .shear) (w .resistance) s ≡ storeyRowFrom (fraction (v .coefficient)) (v .shear) (v .resistance) s
+unfolding storeyRowFrom
+same-storey-row w v p q e s =
+    let a = fraction (w .coefficient) in
+    let b = fraction (v .coefficient) in
+    rw (product-same a b (s .shear) p q (e .coefficient), product-same a b (s .moment) p q (e .coefficient), e .shear, e .resistance)

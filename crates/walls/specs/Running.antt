@@ -1,5 +1,9 @@
--- The running values of the latest wall, kept from its base command on: a, W and MR of 01, "Members", wall base and storey.
+-- The running values of the latest wall, kept from its base command on: a, W and MR of 01, "Members", wall base and storey; 02,
+-- No. 4.
+use mathlib.Core.Path.{_≡_}
 use Prim.Native.Nat.{ℕ, _≤_, _<_}
+use Rattle.exact.specs.Fraction.{_≈F_}
+use Rattle.coefficient.specs.Coefficient.{fraction}
 use Rattle.walls.specs.declared.Wall.{Wall}
 use Rattle.walls.specs.declared.WallBase.{WallBase}
 use Rattle.walls.specs.Base.{wallCoefficient, baseShear}
@@ -19,3 +23,11 @@ pub record WallRange (w : Wall) : Type 0 where
   pub denominator : 0 < w .coefficient .den
   pub shear : w .shear ≤ 400000000
   pub resistance : w .resistance ≤ 100000000
+
+-- ---- the same running values
+
+-- a as a number, whatever the terms of its fraction, W and MR
+pub record SameValues (w v : Wall) : Type 0 where
+  pub coefficient : fraction (w .coefficient) ≈F fraction (v .coefficient)
+  pub shear : w .shear ≡ v .shear
+  pub resistance : w .resistance ≡ v .resistance

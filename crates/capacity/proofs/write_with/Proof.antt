@@ -3,8 +3,8 @@ use mathlib.Core.Path.{sym, ap, _∙_, subst}
 use lib.ListN.{length, replicate}
 use Rattle.context.specs.Running.{roomFor}
 use Rattle.job.specs.declared.Place.{Place}
-use Rattle.job.specs.Walking.{Final, walkFrom, WalkAsks}
-use Rattle.job.proofs.Begin.{noJoints, zero-sums, begin-asks}
+use Rattle.job.specs.Walking.{Final, noJoints, walkFrom, WalkAsks}
+use Rattle.job.proofs.Begin.{zero-sums, begin-asks}
 use Rattle.capacity.proofs.Written.{walk-writes}
 use borrow.Author.Needs.{needs}
 use Rattle.capacity.proofs.write_with.Statement.{statement}

@@ -5,8 +5,8 @@ use mathlib.Core.List.{[]}
 use Rattle.layout.proofs.Numbers.{Bytes}
 use Rattle.cubes.proofs.Lent.{none-lent}
 use Rattle.job.specs.declared.Place.{Place}
-use Rattle.job.specs.Walking.{Final, walkFrom, WalkAsks, walkedAnswer, walkedFault}
-use Rattle.job.proofs.Begin.{noJoints, no-sums, begin-asks, size-is, fault-is}
+use Rattle.job.specs.Walking.{Final, noJoints, walkFrom, WalkAsks, walkedAnswer, walkedFault}
+use Rattle.job.proofs.Begin.{no-sums, begin-asks, size-is, fault-is}
 use borrow.Author.Needs.{needs}
 use Rattle.job.proofs.pass.Statement.{statement}
 use Rattle.job.proofs.pass.Tie as tie

@@ -1,0 +1,79 @@
+-- The words of a storey in what `run` writes: words 2 to 7 come from the running values of the latest wall and the storey's operands
+-- alone, so two storeys of any two jobs that have these in common have the same. 02, No. 4. Assumes nothing.
+use mathlib.Core.Path.{_≡_, sym, ap, _∙_, subst}
+use mathlib.Core.List.{List, [], _∷_, _++_, append-assoc}
+use Prim.Native.Nat.{ℕ, _*_, _≤_, _<_}
+use borrow.Author.Tests.{le-leb}
+use lib.IntN.{ℤ}
+use lib.ListN.{length, drop}
+use Rattle.exact.specs.Fraction.{Fraction}
+use Rattle.coefficient.proofs.Bounds.{proper}
+use Rattle.claims.specs.declared.Row.{Row}
+use Rattle.walls.specs.declared.Storey.{Storey}
+use Rattle.walls.specs.Running.{SameValues}
+use Rattle.walls.proofs.Running.{same-storey-row}
+use Rattle.format.specs.declared.Command.the-variants.{Storey as storey}
+use Rattle.layout.proofs.Numbers.{Bytes}
+use Rattle.rows.specs.Rows.{words}
+use Rattle.rows.specs.Writing.{joined}
+use Rattle.job.specs.Placed.{Placed, Job, accepted, placed, rowsAt, allRows}
+use Rattle.job.specs.LatestWall.{wallAfter, carriedRow, AtStorey}
+use Rattle.job.proofs.Reached.{reached-accepted}
+use Rattle.job.proofs.AlreadyMet.{rows-of-both}
+use Rattle.job.proofs.LatestWall.{at-every-storey}
+use Rattle.capacity.specs.Calls.{rowsFrom, rowsAfter}
+use Rattle.capacity.specs.DemandThree.{rowRead}
+use Rattle.capacity.proofs.Written.{rows-eight, joined-length, joined-append}
+use Rattle.capacity.proofs.Whole.{read-back}
+
+-- ---- a row read off the slice
+
+-- a command of an accepted job with one row, and a slice with room: the row stands behind those of the commands before it
+module _ (job : List ℕ) (ps : List Placed) (e : placed job ≡ accepted ps) (earlier : List Placed) (p : Placed) (later : List Placed) (q : ps ≡ earlier ++ p ∷ later) where
+  row-read : (byte : ℕ) (r : Row) → rowsAt p ≡ words (p .offset) byte r ∷ [] → (m : List ℤ) → 8 * length (allRows ps) ≤ length m → rowRead (rowsAfter job m) (length (allRows earlier)) ≡ r
+  unfolding rowsAfter allRows
+  row-read byte r s m l =
+      let n = length (allRows earlier) in
+      let own = words (p .offset) byte r in
+      let front = joined (allRows earlier) in
+      let tail = drop (8 * length (allRows ps)) m in
+      let all : allRows ps ≡ allRows earlier ++ (own ∷ allRows later) = ap allRows q ∙ rows-of-both earlier (p ∷ later) ∙ ap (λ (x : List (List ℤ)). allRows earlier ++ (x ++ allRows later)) s in
+      let split : joined (allRows ps) ++ tail ≡ front ++ (own ++ (joined (allRows later) ++ tail)) =
+      ap (λ (x : List (List ℤ)). joined x ++ tail) all ∙ ap (λ (x : List ℤ). x ++ tail) (joined-append (allRows earlier) (own ∷ allRows later))
+      ∙ append-assoc front (own ++ joined (allRows later)) tail ∙ ap (λ (x : List ℤ). front ++ x) (append-assoc own (joined (allRows later)) tail) in
+      ap (λ (j : Job). rowRead (rowsFrom j m) n) e ∙ rw (le-leb (8 * length (allRows ps)) (length m) l) (ap (λ (x : List ℤ). rowRead x n) split)
+      ∙ read-back front (joined (allRows later) ++ tail) n (p .offset) byte r (joined-length (allRows earlier) (rows-eight earlier))
+
+-- ---- the words of a storey
+
+-- a storey of an accepted job, with the commands before it
+pub record StoreyOf (job : List ℕ) (earlier : List Placed) (s : Storey) : Type 0 where
+  pub bytes : Bytes job
+  pub commands : List Placed
+  pub is-accepted : placed job ≡ accepted commands
+  pub this : Placed
+  pub later : List Placed
+  pub place : commands ≡ earlier ++ this ∷ later
+  pub is-storey : this .command ≡ storey s
+
+module _ (job : List ℕ) (earlier : List Placed) (s : Storey) (t : StoreyOf job earlier s) where
+  at-storey : AtStorey job earlier (t .this) s
+  at-storey = at-every-storey job (t .bytes) earlier (t .this) (t .later) (reached-accepted job (t .commands) (t .is-accepted) ∙ t .place) s (t .is-storey)
+
+  -- words 2 to 7, from the running values and the operands
+  pub storey-words : (m : List ℤ) → 8 * length (allRows (t .commands)) ≤ length m → rowRead (rowsAfter job m) (length (allRows earlier)) ≡ carriedRow (wallAfter earlier) s
+  storey-words m l = row-read job (t .commands) (t .is-accepted) earlier (t .this) (t .later) (t .place) 7 (carriedRow (wallAfter earlier) s) (at-storey .row) m l
+
+  positive : 0 < wallAfter earlier .coefficient .den
+  positive =
+      let k = at-storey .carries in
+      let b = at-storey .base in
+      subst (λ (a : Fraction). 0 < a .den) (sym (k .coefficient)) (proper 130 (b .resistance) (b .moment) (k .settings .behaviour))
+
+-- two storeys with the same operands, in two jobs or in one: where the walk carries the same values at both, the words are the same,
+-- whatever walls, settings and other commands came before
+pub same-storey-words : (s : Storey) (job other : List ℕ) (earlier before : List Placed) (t : StoreyOf job earlier s) (u : StoreyOf other before s) → SameValues (wallAfter earlier) (wallAfter before) →
+    (m k : List ℤ) → 8 * length (allRows (t .commands)) ≤ length m → 8 * length (allRows (u .commands)) ≤ length k →
+    rowRead (rowsAfter job m) (length (allRows earlier)) ≡ rowRead (rowsAfter other k) (length (allRows before))
+same-storey-words s job other earlier before t u v m k l w =
+    storey-words job earlier s t m l ∙ same-storey-row (wallAfter earlier) (wallAfter before) (positive job earlier s t) (positive other before s u) v s ∙ sym (storey-words other before s u k w)
