@@ -68,7 +68,7 @@ N2 = dict(length=3200, ME1=110000, ME2=110000, V0=35000, VR=250000)
 
 
 def times(factor, operands, names):
-    """The operands, those named multiplied by a factor and rounded: a wrong unit."""
+    """The operands, those named multiplied by a factor and rounded: a wrong unit, or another section."""
     return {name: round(value * factor) if name in names.split() else value for name, value in operands.items()}
 
 
@@ -125,6 +125,19 @@ JOBS = {
         command("joint", "joint 1, storey 2, given again", id=1, RB=280000, RC=380000, EB=120000),
         command("beam", "beam B1, end 1, storey 2, strengthened", **B1 | dict(R1plus=315000), V0=82000, VR=200000),
         command("no_hinges", "member N1, storey 2", joint1=1, joint2=1, **N2),
+    ],
+    # Shears that the strengths give and shears that q caps: a column in two storeys, each also with a larger section; a beam with one of
+    # each; two wall bases that differ in 1 N·m of the seismic moment.
+    "caps": [
+        SETTINGS,
+        command("column", "column C1, storey 1", **C1 | dict(VR=200000)),
+        command("column", "column C1, storey 1, larger section", **times(1.3, C1, STRENGTHS) | dict(VR=260000)),
+        command("column", "column C1, storey 2", **C1 | dict(VE=50000, VR=200000)),
+        command("column", "column C1, storey 2, larger section", **times(1.3, C1, STRENGTHS) | dict(VE=50000, VR=260000)),
+        command("beam", "beam B2, end 1", length=6000, R1plus=300000, R2plus=150000, R1minus=100000, R2minus=180000,
+                V0=60000, VE=24000, VR=140000),
+        command("wall_base", "wall W1, base", length=3000, thickness=300, MR=5000000, ME=1857142, VE=900000, VR=3200000),
+        command("wall_base", "wall W2, base", length=3000, thickness=300, MR=5000000, ME=1857143, VE=900000, VR=3200000),
     ],
     # A wall of five storeys above its base; it becomes thinner and then shorter.
     "wall": [

@@ -1,17 +1,19 @@
 //! Compares the proved library with the reference on random jobs: size, fault, run, total and take-down, with guard words around
 //! the rows; writes each command of each accepted job again, and prints the page of its rows. Arguments: jobs, seed. Prints `N jobs
 //! agree`, or the first disagreement with its job in hexadecimal. A run of 100,000 jobs or more fails too when an operand was never at
-//! fault, when fewer than a tenth of the jobs are accepted ones with a joint revised between members, or when no page had a form feed.
+//! fault, when fewer than a tenth of the jobs are accepted ones with a joint revised between members, when no page had a form feed, or
+//! when one of the cases that `wanted` lists was met fewer than ten times in accepted jobs.
 //! Assumes nothing. Built by tests/run.
 
 mod generate;
 mod library;
 mod reference;
 mod rounds;
+mod shears;
 
 use generate::{Mix, Random};
 use reference::{Fault, Refusal, ROW};
-use rounds::{hexadecimal, MANY};
+use rounds::{hexadecimal, Met, MANY};
 
 /// Words before and after the rows that a call is lent.
 const GUARD: usize = 16;
@@ -48,7 +50,7 @@ fn main() {
         println!("no page had a form feed");
         std::process::exit(1);
     }
-    println!("{jobs} jobs agree");
+    tally.met.finish(jobs, "jobs", wanted());
 }
 
 /// What was met, by outcome of run, and the operands at fault.
@@ -63,6 +65,8 @@ struct Tally {
     /// Pages of accepted jobs, and those with a form feed.
     printed: u64,
     feeds: u64,
+    /// Cases of the commands of accepted jobs.
+    met: Met,
     /// By number, from 1 to 9.
     refused: [u64; 10],
     /// Jobs by the command and the operand at fault.
@@ -173,6 +177,7 @@ fn compare(random: &mut Random, job: &[u8], tally: &mut Tally) -> Result<(), Str
         tally.written += written_again(job)?;
         tally.printed += 1;
         tally.feeds += u64::from(printed(job, rows)?);
+        tally.met.add(cases(job, rows));
     }
     let needed = size.unwrap_or(random.below(12) as usize);
     let long = ROW * needed + random.below(20) as usize;
@@ -326,4 +331,57 @@ fn take_down(random: &mut Random) -> Result<(), String> {
         }
     }
     Ok(())
+}
+
+// The cases.
+
+/// A footing with bit 4 where the exception asks for a coefficient below q/100 and it is equal.
+const EXCEPTED_BUT_EQUAL: &str = "footing: excepted but for a coefficient equal to the cap";
+
+/// What the commands of an accepted job are cases of.
+fn cases(job: &[u8], rows: usize) -> Vec<String> {
+    let mut words = vec![0; ROW * rows];
+    let _ = reference::run(job, &mut words);
+    let rows = words.as_chunks::<ROW>().0;
+    let commands = generate::split(job);
+    let [q, gf] = [1, 5].map(|at| u64::from(u16::from_be_bytes([job[at], job[at + 1]])));
+    let mut cases = Vec::new();
+    let mut sensitive = false;
+    let mut at = 0;
+    for command in &commands {
+        cases.extend(shears::cases(q, command));
+        match command[0] {
+            8 => sensitive = command[6] == 1,
+            9 if !sensitive && q > 100 && command[57] == 3 && equal(command, gf, q) => {
+                let first = rows.partition_point(|row| row[0] < at as i64);
+                let excepted = rows[first..first + 2]
+                    .iter()
+                    .filter(|row| row[7] & 4 != 0 && within_halves(command, row));
+                cases.extend(excepted.map(|_| EXCEPTED_BUT_EQUAL.to_string()));
+            }
+            _ => (),
+        }
+        at += command.len();
+    }
+    cases
+}
+
+/// Whether g·MR = q·ME of a footing, with a seismic moment.
+fn equal(footing: &[u8], g: u64, q: u64) -> bool {
+    let [mr, me] = [9, 13].map(|at| u64::from(word(footing, at)));
+    me > 0 && g * mr == q * me
+}
+
+/// Whether both eccentricities of a footing's row are below half its sides.
+fn within_halves(footing: &[u8], row: &[i64; ROW]) -> bool {
+    2 * row[3] < i64::from(word(footing, 1)) && 2 * row[4] < i64::from(word(footing, 5))
+}
+
+fn word(command: &[u8], at: usize) -> u32 {
+    u32::from_be_bytes(command[at..at + 4].try_into().expect("four bytes"))
+}
+
+/// The cases that must be met.
+fn wanted() -> Vec<String> {
+    [shears::wanted(), vec![EXCEPTED_BUT_EQUAL.to_string()]].concat()
 }

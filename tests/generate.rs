@@ -1,5 +1,6 @@
-//! Pseudo-random jobs of documents 01 and 02: valid ones, with joints given again too, ones of walls, ones with strengths at the demand,
-//! ones with operands out of range, damaged ones, noise; single commands by their values; and words of rows.
+//! Pseudo-random jobs of documents 01 and 02: valid ones, with joints given again and with the two terms of a smaller-of rule equal or
+//! nearly so, ones of walls, ones with strengths at the demand, ones with operands out of range, damaged ones, noise; single commands by
+//! their values; and words of rows.
 //! Assumes nothing; the same seed gives the same jobs.
 
 #![allow(dead_code, unused_imports)]
@@ -166,8 +167,7 @@ impl<'r> Writer<'r> {
 
     fn column(&mut self) {
         let length = self.values.length();
-        let r = [(); 4].map(|()| self.values.amount());
-        let ve = self.values.shear(1400 * (r[0] + r[1]) / length * 100);
+        let (r, ve) = self.values.hinges(length, 1400, 100);
         let vr = self.values.amount();
         self.word(length);
         self.words(&r);
@@ -176,9 +176,8 @@ impl<'r> Writer<'r> {
 
     fn beam(&mut self) {
         let length = self.values.length();
-        let r = [(); 4].map(|()| self.values.amount());
+        let (r, ve) = self.values.hinges(length, 1200, 120);
         let v0 = self.values.signed_amount();
-        let ve = self.values.shear(1200 * (r[2] + r[3]) / length * 120);
         let vr = self.values.amount();
         self.word(length);
         self.words(&r);

@@ -126,7 +126,7 @@ impl<'r> Values<'r> {
     }
 
     /// A seismic shear; mostly near the one at which q·VE is `product`.
-    pub fn shear(&mut self, product: u64) -> u64 {
+    fn shear(&mut self, product: u64) -> u64 {
         if self.random.one_in(4) {
             self.amount()
         } else {
@@ -134,8 +134,60 @@ impl<'r> Values<'r> {
         }
     }
 
-    /// R and E of a coefficient; mostly near the E at which g·R is q·E.
+    /// R1, R2 for plus, R1, R2 for minus and VE of a member with hinges. Mostly q·VE/parts is near factor·S/length of a direction; at
+    /// times they are equal but for a unit or two of R1, at times VE is 0 and so is the S of one direction or of both.
+    pub fn hinges(&mut self, length: u64, factor: u64, parts: u64) -> ([u64; 4], u64) {
+        let mut r = [(); 4].map(|()| self.amount());
+        let at = if self.random.one_in(2) { 0 } else { 2 };
+        let ve = match self.random.below(16) {
+            0..=2 => {
+                let products = [factor * parts, self.q * length];
+                let [sum, ve] = self.equal(products, [2 * LIMIT, LIMIT]);
+                let least = sum.saturating_sub(LIMIT);
+                let r1 = self.random.between(least, sum.min(LIMIT));
+                r[at] = self.at_or_close(r1);
+                r[at + 1] = sum - r1;
+                ve
+            }
+            3 => {
+                let none = if self.random.one_in(2) {
+                    0..4
+                } else {
+                    at..at + 2
+                };
+                r[none].fill(0);
+                0
+            }
+            _ => self.shear(factor * (r[at] + r[at + 1]) / length * parts),
+        };
+        (r, ve)
+    }
+
+    /// x and y above 0 and at most their limits, with first·x = second·y; the limits must have room for some.
+    fn equal(&mut self, [first, second]: [u64; 2], most: [u64; 2]) -> [u64; 2] {
+        let common = common_divisor(first, second);
+        let [x, y] = [second / common, first / common];
+        let times = (most[0] / x).min(most[1] / y);
+        let order = self.random.below(8);
+        let times = self.random.between(1, 1.max(times >> order));
+        [times * x, times * y]
+    }
+
+    /// A value, or one within 2 of it.
+    fn at_or_close(&mut self, value: u64) -> u64 {
+        if self.random.one_in(2) {
+            value
+        } else {
+            self.close(value, 0, LIMIT)
+        }
+    }
+
+    /// R and E of a coefficient; mostly near the E at which g·R is q·E, at times there but for a unit or two of R.
     pub fn strength_and_demand(&mut self, g: u64) -> [u64; 2] {
+        if self.random.one_in(8) {
+            let [r, e] = self.equal([g, self.q], [LIMIT; 2]);
+            return [self.at_or_close(r), e];
+        }
         let r = self.amount();
         let e = if self.random.one_in(4) {
             self.amount()
@@ -219,5 +271,14 @@ impl<'r> Values<'r> {
     /// A signed number of at most a size.
     fn within(&mut self, size: u64) -> i64 {
         self.random.below(2 * size + 1) as i64 - size as i64
+    }
+}
+
+/// The greatest number that divides two.
+fn common_divisor(one: u64, other: u64) -> u64 {
+    if other == 0 {
+        one
+    } else {
+        common_divisor(other, one % other)
     }
 }

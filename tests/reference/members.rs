@@ -1,4 +1,4 @@
-//! The members of document 01: operands, ranges and words 2 to 7 of their rows.
+//! The members of document 01 with request No. 5 of document 02: operands, ranges and words 2 to 7 of their rows.
 //! Assumes of a row's operands that they are in range, and of `Wall` that a wall base made it.
 
 use super::operands::Operands;
@@ -127,6 +127,8 @@ pub struct Coefficient {
     under: u64,
     /// Whether it is below q/100.
     pub below_cap: bool,
+    /// Whether q/100 was strictly the smaller; E = 0 counts as yes. At equality both are false.
+    pub cap_governs: bool,
 }
 
 impl Coefficient {
@@ -137,12 +139,14 @@ impl Coefficient {
                 over: g * r,
                 under: 100 * e,
                 below_cap: true,
+                cap_governs: false,
             }
         } else {
             Coefficient {
                 over: q,
                 under: 100,
                 below_cap: false,
+                cap_governs: q * e < g * r || e == 0,
             }
         }
     }
@@ -170,9 +174,11 @@ impl Coefficient {
 
 // Members with hinges.
 
-/// The smaller of numerator/length and a cap, up; the cap comes rounded up.
-fn hinge_shear(numerator: u64, length: u64, cap: u64) -> u64 {
-    numerator.div_ceil(length).min(cap)
+/// The smaller of the strengths' numerator/length and the cap's numerator/parts, up; and whether the cap was strictly the smaller,
+/// as fractions.
+fn hinge_shear(strengths: u64, length: u64, cap: u64, parts: u64) -> (i64, bool) {
+    let shear = strengths.div_ceil(length).min(cap.div_ceil(parts));
+    (shear as i64, cap * length < strengths * parts)
 }
 
 pub struct Column {
@@ -196,8 +202,9 @@ impl Column {
 
     pub fn row(&self, q: u64) -> [i64; 6] {
         let sum = (self.r[0] + self.r[1]).max(self.r[2] + self.r[3]);
-        let v = hinge_shear(1400 * sum, self.length, (q * self.ve).div_ceil(100));
-        [v as i64, self.vr as i64, 0, 0, 0, i64::from(v > self.vr)]
+        let (v, capped) = hinge_shear(1400 * sum, self.length, q * self.ve, 100);
+        let vr = self.vr as i64;
+        [v, vr, 0, 0, i64::from(capped), i64::from(v > vr)]
     }
 }
 
@@ -235,11 +242,12 @@ impl Beam {
     }
 
     pub fn row(&self, q: u64) -> [i64; 6] {
-        let cap = (q * self.ve).div_ceil(120);
-        let d = |sum: u64| hinge_shear(1200 * sum, self.length, cap) as i64;
+        let d = |sum: u64| hinge_shear(1200 * sum, self.length, q * self.ve, 120);
+        let (plus, plus_capped) = d(self.r[0] + self.r[1]);
+        let (minus, minus_capped) = d(self.r[2] + self.r[3]);
         // V0 is whole: V0 + D up is V0 + (D up), V0 − D down is V0 − (D up).
-        let [plus, minus] = [d(self.r[0] + self.r[1]), d(self.r[2] + self.r[3])];
-        shear_row(self.v0 + plus, self.v0 - minus, self.vr as i64)
+        let (upper, lower) = (self.v0 + plus, self.v0 - minus);
+        shear_row(upper, lower, self.vr as i64, [plus_capped, minus_capped])
     }
 }
 
@@ -258,8 +266,10 @@ impl Operands for Beam {
     }
 }
 
-fn shear_row(upper: i64, lower: i64, vr: i64) -> [i64; 6] {
-    [upper, lower, vr, 0, 0, i64::from(upper > vr || -lower > vr)]
+fn shear_row(upper: i64, lower: i64, vr: i64, capped: [bool; 2]) -> [i64; 6] {
+    let [plus, minus] = capped.map(i64::from);
+    let fails = upper > vr || -lower > vr;
+    [upper, lower, vr, plus, minus, i64::from(fails)]
 }
 
 // Members without hinges.
@@ -290,7 +300,7 @@ impl NoHinges {
                 .times_up(self.me[end])
         };
         let d = (1000 * (m(0) + m(1))).div_ceil(self.length) as i64;
-        shear_row(self.v0 + d, self.v0 - d, self.vr as i64)
+        shear_row(self.v0 + d, self.v0 - d, self.vr as i64, [false; 2])
     }
 }
 
@@ -371,7 +381,7 @@ impl WallBase {
             self.vr as i64,
             moment as i64,
             self.mr as i64,
-            0,
+            i64::from(wall.a.cap_governs),
             verdict,
         ]
     }

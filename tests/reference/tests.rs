@@ -1,6 +1,7 @@
 //! Tries the calls where a listing does not show them: short and long slices, the operand at fault, totals, take-down, writing,
-//! printing.
+//! printing. And where q governs, at equality and on both sides of it.
 
+use super::members::Coefficient;
 use super::{at_fault, commands, layout, read_command, write_command, Command, Written};
 use super::{fault, run, size, take_down, total, Fault, Refusal, Totals};
 use super::{page, Printed};
@@ -77,6 +78,162 @@ fn a_joint_given_again_holds_for_later_members() {
     assert_eq!(words[..8], [35, 5, 5600, -5600, 0, 0, 0, 1]);
     assert_eq!(words[8..16], [72, 5, 14_000, -14_000, 0, 0, 0, 1]);
     assert_eq!(words[16..], [95, 5, 5600, -5600, 0, 0, 0, 1]);
+}
+
+// Where q governs (02, No. 5); q is 350.
+
+/// A row that is the only one of its job.
+fn row(commands: &[Vec<u8>]) -> [i64; 8] {
+    let mut row = [0; 8];
+    let job = [&JOB[..7], &commands.concat(), &[0]].concat();
+    assert_eq!(run(&job, &mut row), Ok(1));
+    row
+}
+
+/// V and word 6 of a column with these sums of plus and minus.
+fn column(length: u32, [plus, minus]: [u32; 2], ve: u32) -> [i64; 2] {
+    let row = row(&[command(3, &[(0, length), (1, plus), (4, minus), (5, ve)])]);
+    assert_eq!(row[3..6], [0; 3]);
+    [row[2], row[6]]
+}
+
+/// Upper, lower and words 5 and 6 of a beam with these sums; V0 is 10.
+fn beam(length: u32, [plus, minus]: [u32; 2], ve: u32) -> [i64; 4] {
+    let set = [(0, length), (2, plus), (3, minus), (5, 10), (6, ve)];
+    let row = row(&[command(4, &set)]);
+    [row[2], row[3], row[5], row[6]]
+}
+
+/// V and word 6 of a wall base.
+fn wall_base(mr: u32, me: u32, ve: u32) -> [i64; 2] {
+    let row = row(&[command(6, &[(2, mr), (3, me), (4, ve)])]);
+    [row[2], row[6]]
+}
+
+/// 1400 · S / 1400 beside 350 · 100 / 100, with the larger sum.
+#[test]
+fn the_cap_of_a_column_governs_where_it_is_strictly_the_smaller() {
+    assert_eq!(column(1400, [349, 0], 100), [349, 0]);
+    assert_eq!(column(1400, [350, 0], 100), [350, 0]);
+    assert_eq!(column(1400, [351, 0], 100), [350, 1]);
+    assert_eq!(column(1400, [349, 351], 100), [350, 1]);
+    assert_eq!(column(1400, [351, 349], 100), [350, 1]);
+    assert_eq!(column(1400, [350, 350], 100), [350, 0]);
+}
+
+/// 1200 · S / 1200 beside 350 · 120 / 120, each direction by its own sum.
+#[test]
+fn the_cap_of_a_beam_governs_by_direction() {
+    assert_eq!(beam(1200, [349, 349], 120), [359, -339, 0, 0]);
+    assert_eq!(beam(1200, [350, 350], 120), [360, -340, 0, 0]);
+    assert_eq!(beam(1200, [351, 350], 120), [360, -340, 1, 0]);
+    assert_eq!(beam(1200, [350, 351], 120), [360, -340, 0, 1]);
+    assert_eq!(beam(1200, [349, 900], 120), [359, -340, 0, 1]);
+    assert_eq!(beam(1200, [900, 349], 120), [360, -339, 1, 0]);
+    assert_eq!(beam(1200, [900, 351], 120), [360, -340, 1, 1]);
+}
+
+/// The paper's figures; 130 · 35 = 350 · 13.
+#[test]
+fn the_cap_of_a_wall_base_governs_by_its_coefficient() {
+    assert_eq!(wall_base(5_000_000, 2_000_000, 900_000), [2_925_000, 0]);
+    assert_eq!(wall_base(5_000_000, 1_857_143, 900_000), [3_150_000, 0]);
+    assert_eq!(wall_base(5_000_000, 1_857_142, 900_000), [3_150_000, 1]);
+    assert_eq!(wall_base(34, 13, 2600), [8840, 0]);
+    assert_eq!(wall_base(35, 13, 2600), [9100, 0]);
+    assert_eq!(wall_base(36, 13, 2600), [9100, 1]);
+}
+
+#[test]
+fn the_cap_of_a_wall_base_without_moment_governs() {
+    assert_eq!(wall_base(7, 0, 100), [350, 1]);
+    assert_eq!(wall_base(0, 0, 100), [350, 1]);
+    assert_eq!(wall_base(0, 1, 100), [0, 0]);
+}
+
+#[test]
+fn without_seismic_shear_the_sums_tell() {
+    assert_eq!(column(3000, [0, 0], 0), [0, 0]);
+    assert_eq!(column(3000, [1, 0], 0), [0, 1]);
+    assert_eq!(column(3000, [0, 1], 0), [0, 1]);
+    assert_eq!(beam(3000, [0, 0], 0), [10, 10, 0, 0]);
+    assert_eq!(beam(3000, [1, 0], 0), [10, 10, 1, 0]);
+    assert_eq!(beam(3000, [0, 1], 0), [10, 10, 0, 1]);
+}
+
+#[test]
+fn without_seismic_shear_a_wall_base_tells_of_its_coefficient() {
+    assert_eq!(wall_base(36, 13, 0), [0, 1]);
+    assert_eq!(wall_base(35, 13, 0), [0, 0]);
+    assert_eq!(wall_base(34, 13, 0), [0, 0]);
+    assert_eq!(wall_base(0, 0, 0), [0, 1]);
+}
+
+/// The values are compared before they are rounded. Column: 3.5 beside 3.73, 3.27 and 3.5, all up to 4. Beam: 2.92 beside 3 and 2.67,
+/// all up to 3. Wall base: 3.5 beside 3.6 and 3.4, all up to 4.
+#[test]
+fn rounded_values_do_not_tell() {
+    assert_eq!(column(3000, [8, 0], 1), [4, 1]);
+    assert_eq!(column(3000, [7, 0], 1), [4, 0]);
+    assert_eq!(column(3200, [8, 0], 1), [4, 0]);
+    assert_eq!(beam(3600, [9, 8], 1), [13, 7, 1, 0]);
+    assert_eq!(beam(3600, [8, 9], 1), [13, 7, 0, 1]);
+    assert_eq!(wall_base(36, 13, 1), [4, 1]);
+    assert_eq!(wall_base(34, 13, 1), [4, 0]);
+}
+
+/// The numbers compared are largest here.
+#[test]
+fn the_cap_is_compared_at_the_limits() {
+    const LIMIT: u32 = 100_000_000;
+    let words = |code, length| {
+        let amounts = (1..=7).filter(|&place| (code, place) != (4, 5));
+        let set: Vec<_> = amounts.map(|place| (place, LIMIT)).collect();
+        row(&[command(code, &[&set[..], &[(0, length)]].concat())])
+    };
+    assert_eq!(words(3, 100_000)[2..7], [2_800_000, 100_000_000, 0, 0, 0]);
+    assert_eq!(words(3, 800)[2..7], [350_000_000, 100_000_000, 0, 0, 0]);
+    assert_eq!(words(3, 799)[2..7], [350_000_000, 100_000_000, 0, 0, 1]);
+    assert_eq!(
+        words(4, 100_000)[2..7],
+        [2_400_000, -2_400_000, 100_000_000, 0, 0]
+    );
+    assert_eq!(
+        words(4, 500)[2..7],
+        [291_666_667, -291_666_667, 100_000_000, 1, 1]
+    );
+    assert_eq!(wall_base(LIMIT, LIMIT, LIMIT), [130_000_000, 0]);
+    assert_eq!(wall_base(LIMIT, 1, LIMIT), [350_000_000, 1]);
+}
+
+/// Not the negation of what the exception of bit 4 asks for.
+#[test]
+fn at_equality_the_coefficient_is_neither_below_the_cap_nor_above() {
+    let both = |r, e| {
+        let a = Coefficient::new(130, r, e, 350);
+        [a.below_cap, a.cap_governs]
+    };
+    assert_eq!(both(34, 13), [true, false]);
+    assert_eq!(both(35, 13), [false, false]);
+    assert_eq!(both(36, 13), [false, true]);
+    assert_eq!(both(0, 0), [false, true]);
+}
+
+/// A wall base and a joint with E = 0: word 6 of the storey is k, the member without hinges has 0 and 0.
+#[test]
+fn other_rows_keep_their_words() {
+    let commands = [
+        command(6, &[(2, 7), (4, 100)]),
+        command(7, &[(2, 1), (3, 8)]),
+        command(2, &[(1, 1), (2, 1)]),
+        command(5, &[(3, 10), (4, 10)]),
+    ];
+    let mut words = [0; 24];
+    let job = [&JOB[..7], &commands.concat(), &[0]].concat();
+    assert_eq!(run(&job, &mut words), Ok(3));
+    assert_eq!(words[..8], [7, 6, 350, 0, 3, 7, 1, 129]);
+    assert_eq!(words[8..16], [32, 7, 59, 0, 2, 0, 500, 3]);
+    assert_eq!(words[16..], [71, 5, 140, -140, 0, 0, 0, 1]);
 }
 
 // The operand at fault.

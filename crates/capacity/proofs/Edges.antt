@@ -17,7 +17,7 @@ use Rattle.soil.specs.Kinds.{known as kindKnown, topOf, factorOf, valueAllowed}
 use Rattle.soil.specs.Reading.{soilAllowed, soilHolding}
 use Rattle.soil.specs.Taken.{taken, takeDown, tangentOf}
 use Rattle.cubes.specs.Root.{firstFrom, leastRoot}
-use Rattle.coefficient.specs.Coefficient.{coefficientOf}
+use Rattle.coefficient.specs.Coefficient.{coefficientOf, capGoverns}
 use Rattle.members.specs.Column.{columnRow}
 use Rattle.members.specs.Beam.{beamRow}
 use Rattle.members.specs.Hingeless.{hingelessRow}
@@ -258,7 +258,7 @@ pub record Edges : Type 0 where
 pub edges : Edges
 unfolding
     runOf rowsAfter placed placedBy allRows rowsOf rowsWith testsAt tooMany misplaced known knownIn formsOf formsIn operandsWidth widthOfAll width commandAt commandOf readOperands number numberAfter inRange allInRange
-    formInRange related within withinSigned signed32 bits32 next absent columnRow beamRow hingelessRow detailRow baseRow baseRowFrom storeyRow storeyRowFrom footingRow baseResistance coefficientOf smaller up down upℤ downℤ
+    formInRange related within withinSigned signed32 bits32 next absent columnRow beamRow hingelessRow detailRow baseRow baseRowFrom storeyRow storeyRowFrom footingRow baseResistance coefficientOf capGoverns smaller up down upℤ downℤ
     firstFrom leastRoot soilAllowed soilHolding valueAllowed kindKnown topOf factorOf allowed cut taken takeDown tangentOf accepted refused ofBits
 edges =
     record {

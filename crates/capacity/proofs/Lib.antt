@@ -1,14 +1,16 @@
 -- Demand 3 for a whole job; what `run` gives twice and on a longer slice; how large its words are, and their page;
--- joints given again; the words of a storey; jobs and the call `write`; its verdicts at their bounds.
+-- joints given again; the words of a storey; where the cap governs; jobs and the call `write`; its verdicts at their bounds.
 mod Ranges
 mod RowsTrue
 pub mod RowsSized
 mod Whole
 mod Written
 mod Runs
+mod RowRead
 pub mod SameWords
 pub mod PageOfRun
 pub mod Revised
 pub mod StoreyWords
+pub mod Governs
 pub mod WrittenAgain
 pub mod Edges

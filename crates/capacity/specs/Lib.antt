@@ -1,3 +1,4 @@
--- The calls, and demand 3 for a whole job. Assumes nothing.
+-- The calls, demand 3 for a whole job, and where the cap governs. Assumes nothing.
 pub mod Calls
 pub mod DemandThree
+pub mod Governs

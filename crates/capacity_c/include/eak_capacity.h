@@ -40,12 +40,15 @@
 extern "C" {
 #endif
 
-/* The version that this header belongs to, 1.3.0: 10,000 times the major number, 100 times the minor one, and the patch. A call is
- * changed or removed with the major number; with the minor one a call is added, or jobs are accepted that were refused.
- * eak_version answers the library's. */
-#define EAK_VERSION 10300
+/* The version that this header belongs to, 2.0.0: 10,000 times the major number, 100 times the minor one, and the patch. With the major
+ * number a call is changed or removed, or words of the rows of accepted jobs change; with the minor one a call is added, or jobs are
+ * accepted that were refused. eak_version answers the library's. */
+#define EAK_VERSION 20000
 
-/* The words of a row. Word 0 is the command's offset in the job, word 1 its byte, word 7 the verdict, 0 for passed. */
+/* The words of a row. Word 0 is the command's offset in the job, word 1 its byte, word 7 the verdict, 0 for passed; docs/FORMAT.md has
+ * the others. From version 2.0.0 on, rows tell where the cap q holds the design shear: word 6 of a column and of a wall base, word 5
+ * (plus) and word 6 (minus) of a beam are 1 where the cap is strictly the smaller, or the ME of a wall base is 0, else 0. Before, these
+ * words were 0. A 1 says that no greater resistance changes that shear; a 0 says that the shear is that of the resistances. */
 #define EAK_ROW_WORDS 8
 
 /* No job has more rows: 4,096 commands at most, of which the settings and a soil write none and 4,094 footings write two each. A

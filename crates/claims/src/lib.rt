@@ -15,11 +15,11 @@ pub struct Row {
     pub verdict: i64,
 }
 
-// The bit's value where the check failed, else 0.
-pub fn failed_bit(bit: u64, failed: bool) -> u64
-    ensures { λ r. ⌜ r ≡ flag bit failed ⌝ }
+// The bit's value where it is set, else 0: a bit of a verdict where the check failed, and 1 where a word tells yes.
+pub fn flagged(bit: u64, set: bool) -> u64
+    ensures { λ r. ⌜ r ≡ flag bit set ⌝ }
 {
-    if failed { bit } else { 0 }
+    if set { bit } else { 0 }
 }
 
 // A word of a row from a number that is not negative.
@@ -36,7 +36,7 @@ pub fn verdict_of(bit: u64, failed: bool, other: u64, broken: bool) -> u64
     ensures value { λ r. ⌜ r ≡ flag bit failed + flag other broken ⌝ }
     ensures within { λ r. ⌜ r ≤ bit + other ⌝ }
 {
-    failed_bit(bit, failed) + failed_bit(other, broken)
+    flagged(bit, failed) + flagged(other, broken)
 }
 
 // A row from numbers that are not negative.

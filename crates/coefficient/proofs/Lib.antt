@@ -1,2 +1,3 @@
 -- What callers cite of the coefficient.
 pub mod Bounds
+pub mod Governs

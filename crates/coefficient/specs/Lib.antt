@@ -1,2 +1,3 @@
--- The capacity coefficient. Assumes nothing.
+-- The capacity coefficient, and where its cap governs. Assumes nothing.
 pub mod Coefficient
+pub mod Governs

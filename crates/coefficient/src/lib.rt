@@ -1,9 +1,10 @@
 // The capacity coefficient, 01, "Capacity coefficient": a = g·R/(100·E), at most q/100; E = 0 gives q/100. It stays an exact
-// fraction, a pair of whole numbers. The smaller-of function serves it, the column and the beam.
+// fraction, a pair of whole numbers. The smaller-of function serves it, the column and the beam, and tells whether the cap governs
+// (02, No. 5).
 ghost use mathlib.Core.Path.{_≡_};
 ghost use Prim.Native.Nat.{_*_, _<_};
-ghost use Rattle.exact.specs.Fraction.{whole, _*F_, upF, smaller as smallerOf};
-ghost use Rattle.coefficient.specs.Coefficient.{fraction, coefficientOf, Comparable, CoefficientRange, ProductFits};
+ghost use Rattle.exact.specs.Fraction.{whole, _*F_, upF, ltF, smaller as smallerOf};
+ghost use Rattle.coefficient.specs.Coefficient.{fraction, coefficientOf, capGoverns, Comparable, CoefficientRange, ProductFits};
 
 // Hundredths: q, the behaviour factor; gj and gf, the overstrengths of joints and of foundations.
 pub struct Settings {
@@ -18,25 +19,46 @@ pub struct Quotient {
     pub den: u64,
 }
 
-// The smaller of two quotients, the first where they are equal.
-pub fn smaller(x: Quotient, y: Quotient) -> Quotient
-    requires { ⌜ Comparable x y ⌝ }
-    ensures { λ r. ⌜ fraction r ≡ smallerOf (fraction x) (fraction y) ⌝ }
-{
-    if x.num * y.den <= y.num * x.den { x } else { y }
+// A term limited by its cap: the smaller of both, and whether the cap governs.
+pub struct Limited {
+    pub value: Quotient,
+    pub governs: bool,
 }
 
-// g (hundredths), R, E, and q (hundredths), which caps it.
-pub fn coefficient(overstrength: u32, resistance: u32, seismic: u32, behaviour: u32) -> Quotient
+// The smaller of a term and its cap, the term where they are equal; the cap governs where it is strictly the smaller.
+pub fn smaller(term: Quotient, cap: Quotient) -> Limited
+    requires { ⌜ Comparable term cap ⌝ }
+    ensures value { λ r. ⌜ fraction (r .value) ≡ smallerOf (fraction term) (fraction cap) ⌝ }
+    ensures governs { λ r. ⌜ r .governs ≡ ltF (fraction cap) (fraction term) ⌝ }
+{
+    if term.num * cap.den <= cap.num * term.den {
+        Limited {
+            value: term,
+            governs: false,
+        }
+    } else {
+        Limited {
+            value: cap,
+            governs: true,
+        }
+    }
+}
+
+// g (hundredths), R, E, and q (hundredths), which caps it; E = 0 counts as governed by q.
+pub fn coefficient(overstrength: u32, resistance: u32, seismic: u32, behaviour: u32) -> Limited
     requires { ⌜ CoefficientRange overstrength resistance seismic behaviour ⌝ }
-    ensures { λ r. ⌜ fraction r ≡ coefficientOf overstrength resistance seismic behaviour ⌝ }
+    ensures value { λ r. ⌜ fraction (r .value) ≡ coefficientOf overstrength resistance seismic behaviour ⌝ }
+    ensures governs { λ r. ⌜ r .governs ≡ capGoverns overstrength resistance seismic behaviour ⌝ }
 {
     let cap = Quotient {
         num: behaviour as u64,
         den: 100,
     };
     if seismic == 0 {
-        return cap;
+        return Limited {
+            value: cap,
+            governs: true,
+        };
     }
     smaller(
         Quotient {

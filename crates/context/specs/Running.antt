@@ -80,7 +80,7 @@ startState =
       given = false;
       settings = record { behaviour = 0; joints = 0; foundations = 0 };
       walled = false;
-      wall = record { coefficient = record { num = 0; den = 1 }; shear = 0; resistance = 0 };
+      wall = record { coefficient = record { num = 0; den = 1 }; shear = 0; resistance = 0; governs = 0 };
       founded = false;
       soil = Granular (ofBits binary32 0);
       sensitive = false;

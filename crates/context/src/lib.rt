@@ -43,6 +43,7 @@ pub fn start() -> State
         coefficient,
         shear: 0,
         resistance: 0,
+        governs: 0,
     };
     let soil = Soil::Granular(0.0);
     State {

@@ -3,7 +3,7 @@
 use mathlib.Core.Path.{_≡_}
 use mathlib.Core.Bool.{Bool, cond}
 use Prim.Native.Nat.{ℕ, _+_, _-_, _*_, _≤_, _<_}
-use lib.Dec.{leb}
+use lib.Dec.{leb, ltb}
 use Rattle.exact.specs.Quotient.{up, down}
 
 pub record Fraction : Type 0 where
@@ -46,6 +46,10 @@ x /F d = record { num = x .num; den = x .den * d }
 -- the first is at most the second
 abbrev pub leF : Fraction → Fraction → Bool
 leF x y = leb (x .num * y .den) (y .num * x .den)
+
+-- the first is below the second
+abbrev pub ltF : Fraction → Fraction → Bool
+ltF x y = ltb (x .num * y .den) (y .num * x .den)
 
 unfoldable pub smaller : Fraction → Fraction → Fraction
 smaller x y = cond (leF x y) x y

@@ -12,7 +12,7 @@ use Rattle.soil.specs.Taken.{takeDown}
 use Rattle.soil.specs.Answers.{accepted, refused}
 use Rattle.soil.proofs.Figures.{tangent-0-7, tangent-2, tangent-above-2, tangent-minus-0}
 use Rattle.cubes.proofs.Figures.{same, half, eighth}
-use Rattle.coefficient.specs.Coefficient.{coefficientOf}
+use Rattle.coefficient.specs.Coefficient.{coefficientOf, capGoverns}
 use Rattle.claims.specs.Verdict.{flag}
 use Rattle.claims.specs.Claims.{BitClear}
 use Rattle.members.specs.Column.{columnRow}
@@ -38,7 +38,7 @@ unfolding takeDown ofBits
 tangent-0-5 = refl
 
 pub figures : Figures
-unfolding columnRow beamRow hingelessRow detailRow baseRow storeyRow footingRow baseResistance coefficientOf smaller up down upℤ downℤ accepted refused
+unfolding columnRow beamRow hingelessRow detailRow baseRow storeyRow footingRow baseResistance coefficientOf capGoverns smaller up down upℤ downℤ accepted refused
 figures =
     record {
       columnShear = λ VR. refl;
@@ -47,6 +47,8 @@ figures =
       wallShear = λ length thickness VR. refl;
       capGoverns = λ length thickness VR. (refl, omega arith);
       capNot = λ length thickness VR. (refl, omega arith);
+      capGovernsWord = λ length thickness VR. refl;
+      capNotWord = λ length thickness VR. refl;
       storeySame = λ length thickness VRbase J ME VR MS h. (rw (same J h), rw (same J h));
       storeyEighth = λ length thickness VRbase J ME VR MS h. (rw (eighth J h), rw (eighth J h));
       storeyHalf = λ length thickness VRbase J ME VR MS h. (rw (half J h), rw (half J h));

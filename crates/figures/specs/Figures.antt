@@ -58,6 +58,9 @@ pub record Figures : Type 0 where
   pub capGoverns : (length thickness VR : ℕ) → (wallCoefficient q (wall 1857142 length thickness VR) ≡ cap) × (cap <F quotient 1857142)
   -- with 1857143 not: a is the other quotient, below q/100
   pub capNot : (length thickness VR : ℕ) → (wallCoefficient q (wall 1857143 length thickness VR) ≡ quotient 1857143) × (quotient 1857143 <F cap)
+  -- 02, No. 5: the rows of both walls tell so, in word 6
+  pub capGovernsWord : (length thickness VR : ℕ) → baseRow q (wall 1857142 length thickness VR) .word6 ≡ pos 1
+  pub capNotWord : (length thickness VR : ℕ) → baseRow q (wall 1857143 length thickness VR) .word6 ≡ pos 0
   -- Storey VE 100000: J = J0 975,000; J0 = 8J, k 500, 487,500; J0 = 2J, k 794, 774,150
   pub storeySame : Storeys (λ J. J) 1000 975000
   pub storeyEighth : Storeys (λ J. 8 * J) 500 487500

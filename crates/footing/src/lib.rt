@@ -44,12 +44,13 @@ pub fn footing_coefficient(settings: Settings, f: Footing) -> Quotient
     requires { ⌜ FootingRange settings f ⌝ }
     ensures { λ r. ⌜ fraction r ≡ footingCoefficient settings f ⌝ }
 {
-    coefficient::coefficient(
+    let a = coefficient::coefficient(
         settings.foundations,
         f.resistance,
         f.moment,
         settings.behaviour,
-    )
+    );
+    a.value
 }
 
 // ---- the actions V ± a·E

@@ -7,7 +7,7 @@ use Prim.Native.Nat.{ℕ}
 use lib.ListN.{take, replicate}
 use Rattle.exact.specs.Quotient.{up}
 use Rattle.exact.specs.Fraction.{smaller}
-use Rattle.coefficient.specs.Coefficient.{coefficientOf}
+use Rattle.coefficient.specs.Coefficient.{coefficientOf, capGoverns}
 use Rattle.walls.specs.declared.Wall.{Wall}
 use Rattle.walls.specs.Running.{wallOf}
 use Rattle.quantity.specs.Range.{within, withinSigned}
@@ -66,13 +66,13 @@ carried n = wallAfter (take n (reached job))
 pub record TwoWalls : Type 0 where
   pub stopped : placed job ≡ refused 5 146
   pub offsets : map (λ (p : Placed). p .offset) (reached job) ≡ 0 ∷ 7 ∷ 32 ∷ 57 ∷ 71 ∷ 96 ∷ 121 ∷ []
-  pub first-storey : carried 2 ≡ record { coefficient = record { num = 6500; den = 2000 }; shear = 293; resistance = 50 }
+  pub first-storey : carried 2 ≡ record { coefficient = record { num = 6500; den = 2000 }; shear = 293; resistance = 50; governs = 0 }
   pub behind-a-joint : carried 4 ≡ carried 2
-  pub second-wall : carried 6 ≡ record { coefficient = record { num = 350; den = 100 }; shear = 315; resistance = 50 }
+  pub second-wall : carried 6 ≡ record { coefficient = record { num = 350; den = 100 }; shear = 315; resistance = 50; governs = 1 }
   pub at-fault : carried 7 ≡ carried 6
 
 pub two-walls : TwoWalls
-unfolding up smaller coefficientOf wallOf within withinSigned number numberAfter signed32 bits32 width formInRange known knownIn formsOf formsIn widthOfAll operandsWidth readOperands commandOf inRange allInRange related commandAt next absent startState nextState withSettings withWall withGround tooMany misplaced testsAt placedBy placed firstPlace reachedFrom reached
+unfolding up smaller coefficientOf capGoverns wallOf within withinSigned number numberAfter signed32 bits32 width formInRange known knownIn formsOf formsIn widthOfAll operandsWidth readOperands commandOf inRange allInRange related commandAt next absent startState nextState withSettings withWall withGround tooMany misplaced testsAt placedBy placed firstPlace reachedFrom reached
 two-walls =
     record {
       stopped = refl;

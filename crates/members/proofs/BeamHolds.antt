@@ -1,5 +1,5 @@
 -- The claims of a beam's row hold for all operands in range. Assumes nothing.
-use Prim.Native.Nat.{ℕ, _+_, _*_}
+use Prim.Native.Nat.{ℕ, _*_}
 use native.Mathlib.Omega.{arith}
 use lib.IntN.{pos}
 use Rattle.exact.specs.Fraction.{whole}
@@ -8,7 +8,7 @@ use Rattle.claims.specs.Claims.{CheckHolds, Hold}
 use Rattle.claims.proofs.Checks.{check-holds}
 use Rattle.claims.proofs.Rounded.{upS-not-below, upS-excess, downS-not-below, downS-excess, operand-strength}
 use Rattle.members.specs.declared.Beam.{Beam}
-use Rattle.members.specs.Beam.{upperShear, lowerShear, beamRow, beamClaims, BeamRange}
+use Rattle.members.specs.Beam.{sumPlus, sumMinus, upperShear, lowerShear, beamRow, beamClaims, BeamRange}
 use Rattle.members.proofs.Steps.{smaller-proper}
 use Rattle.members.proofs.Shears.{upperCheck, lowerCheck, shears-hold}
 
@@ -25,6 +25,6 @@ beam-holds q b r =
     let x = upperShear q b in
     let y = lowerShear q b in
     let l = smaller-proper (b .length) 120 (omega (arith, r .length-least)) (omega arith) in
-    let p : ProperS x = omega (arith, l (1200 * (b .plus1 + b .plus2)) (q * b .shear)) in
-    let o : ProperS y = omega (arith, l (1200 * (b .minus1 + b .minus2)) (q * b .shear)) in
+    let p : ProperS x = omega (arith, l (1200 * sumPlus b) (q * b .shear)) in
+    let o : ProperS y = omega (arith, l (1200 * sumMinus b) (q * b .shear)) in
     shears-hold (upS x) (downS y) x y (whole 1) (b .strength) (upper-check x (b .strength) p) (lower-check y (b .strength) o)

@@ -7,3 +7,4 @@ pub mod BeamHolds
 pub mod HingelessHolds
 pub mod DetailHolds
 pub mod Sizes
+pub mod Governs

@@ -10,7 +10,7 @@ use Rattle.exact.specs.Fraction.{Fraction, upF}
 use Rattle.exact.specs.SignedFraction.{wholeS, signed, _+S_, _-S_, upS, downS}
 use Rattle.claims.specs.declared.Row.{Row}
 use Rattle.claims.specs.Verdict.{flag}
-use Rattle.coefficient.specs.declared.Quotient.{Quotient}
+use Rattle.coefficient.specs.declared.Limited.{Limited}
 use Rattle.coefficient.specs.declared.Settings.{Settings}
 use Rattle.coefficient.specs.Coefficient.{fraction}
 use Rattle.members.specs.declared.Column.{Column}
@@ -18,31 +18,38 @@ use Rattle.members.specs.declared.Beam.{Beam}
 use Rattle.members.specs.declared.Joint.{Joint}
 use Rattle.members.specs.declared.Hingeless.{Hingeless}
 use Rattle.members.specs.declared.Detail.{Detail}
-use Rattle.members.specs.Column.{columnShear, columnRow}
-use Rattle.members.specs.Beam.{beamShear, beamRow}
+use Rattle.members.specs.Column.{columnShear, columnGoverned, columnRow}
+use Rattle.members.specs.Beam.{sumPlus, sumMinus, beamShear, beamGoverned, beamRow}
 use Rattle.members.specs.Hingeless.{roundedShear, hingelessRow}
 use Rattle.members.specs.Detail.{detailDemand, detailLimit, detailRow}
 
 -- ---- column
 
-pub column-is : (q : ℕ) (c : Column) (demand : ℕ) (verdict : ℤ) (x : Quotient) → fraction x ≡ columnShear q c → demand ≡ up (x .num) (x .den) →
-    verdict ≡ pos (flag 1 (ltb (c .strength) demand)) →
-    _≡_ {A = Row} (record { word2 = pos demand; word3 = pos (c .strength); word4 = pos 0; word5 = pos 0; word6 = pos 0; verdict = verdict }) (columnRow q c)
+pub column-is : (q : ℕ) (c : Column) (demand : ℕ) (governed verdict : ℤ) (x : Limited) → fraction (x .value) ≡ columnShear q c → x .governs ≡ columnGoverned q c →
+    demand ≡ up (x .value .num) (x .value .den) → governed ≡ pos (flag 1 (x .governs)) → verdict ≡ pos (flag 1 (ltb (c .strength) demand)) →
+    _≡_ {A = Row} (record { word2 = pos demand; word3 = pos (c .strength); word4 = pos 0; word5 = pos 0; word6 = governed; verdict = verdict }) (columnRow q c)
 unfolding columnRow
-column-is q c demand verdict x e d f = let v : demand ≡ upF (columnShear q c) = d ∙ ap upF e in rw (f, v)
+column-is q c demand governed verdict x e g d t f =
+    let v : demand ≡ upF (columnShear q c) = d ∙ ap upF e in
+    let w = t ∙ ap (λ (b : Bool). pos (flag 1 b)) g in
+    rw (f, v, w)
 
 -- ---- beam
 
-pub beam-is : (q : ℕ) (b : Beam) (upper lower verdict : ℤ) (x y : Quotient) →
-    fraction x ≡ beamShear q (b .plus1 + b .plus2) b → fraction y ≡ beamShear q (b .minus1 + b .minus2) b →
-    upper ≡ upS (wholeS (b .nonseismic) +S signed (fraction x)) → lower ≡ downS (wholeS (b .nonseismic) -S signed (fraction y)) →
+pub beam-is : (q : ℕ) (b : Beam) (upper lower plus minus verdict : ℤ) (x y : Limited) →
+    (fraction (x .value) ≡ beamShear q (sumPlus b) b) × (x .governs ≡ beamGoverned q (sumPlus b) b) →
+    (fraction (y .value) ≡ beamShear q (sumMinus b) b) × (y .governs ≡ beamGoverned q (sumMinus b) b) →
+    upper ≡ upS (wholeS (b .nonseismic) +S signed (fraction (x .value))) → lower ≡ downS (wholeS (b .nonseismic) -S signed (fraction (y .value))) →
+    plus ≡ pos (flag 1 (x .governs)) → minus ≡ pos (flag 1 (y .governs)) →
     verdict ≡ pos (flag 1 (ltZ (pos (b .strength)) upper || ltZ (pos (b .strength)) (negℤ lower))) →
-    _≡_ {A = Row} (record { word2 = upper; word3 = lower; word4 = pos (b .strength); word5 = pos 0; word6 = pos 0; verdict = verdict }) (beamRow q b)
+    _≡_ {A = Row} (record { word2 = upper; word3 = lower; word4 = pos (b .strength); word5 = plus; word6 = minus; verdict = verdict }) (beamRow q b)
 unfolding beamRow
-beam-is q b upper lower verdict x y e f u l v =
+beam-is q b upper lower plus minus verdict x y (e, g) (f, h) u l p m v =
     let u′ = u ∙ ap (λ (d : Fraction). upS (wholeS (b .nonseismic) +S signed d)) e in
     let l′ = l ∙ ap (λ (d : Fraction). downS (wholeS (b .nonseismic) -S signed d)) f in
-    rw (v, u′, l′)
+    let p′ = p ∙ ap (λ (t : Bool). pos (flag 1 t)) g in
+    let m′ = m ∙ ap (λ (t : Bool). pos (flag 1 t)) h in
+    rw (v, u′, l′, p′, m′)
 
 -- ---- member without hinges
 

@@ -11,6 +11,7 @@ use Rattle.exact.specs.SignedFraction.{above, below, upS, downS}
 use Rattle.exact.proofs.Integers.{natAbs-law, natAbs-+ℤ}
 use Rattle.exact.proofs.Multiply.{_·_}
 use Rattle.exact.proofs.Rounding.{upS-size, downS-size}
+use Rattle.claims.specs.Verdict.{flag}
 use Rattle.claims.specs.Sizes.{Sized}
 use Rattle.claims.proofs.Bits.{flag-le}
 use Rattle.claims.proofs.Sizes.{sized}
@@ -21,8 +22,8 @@ use Rattle.members.specs.declared.Beam.{Beam}
 use Rattle.members.specs.declared.Joint.{Joint}
 use Rattle.members.specs.declared.Hingeless.{Hingeless}
 use Rattle.members.specs.declared.Detail.{Detail}
-use Rattle.members.specs.Column.{columnShear, columnRow, ColumnRange}
-use Rattle.members.specs.Beam.{beamShear, upperShear, lowerShear, beamRow, BeamRange}
+use Rattle.members.specs.Column.{columnShear, columnGoverned, columnRow, ColumnRange}
+use Rattle.members.specs.Beam.{sumPlus, sumMinus, beamShear, beamGoverned, upperShear, lowerShear, beamRow, BeamRange}
 use Rattle.members.specs.Hingeless.{roundedShear, hingelessRow, HingelessRange}
 use Rattle.members.specs.Detail.{detailDemand, detailLimit, detailRow, DetailRange}
 use Rattle.members.proofs.Steps.{smaller-proper, up-at-most-second, natAbs-minus, shear-at-most}
@@ -33,8 +34,8 @@ column-sized q c r =
     let x = columnShear q c in
     let p : Proper x = smaller-proper (c .length) 100 (omega (arith, r .length-least)) (omega arith) _ _ in
     let h : upF x ≤ q * c .shear = up-at-most-second _ (ratio (q * c .shear) 100) p (omega arith) in
-    sized (pos (upF x)) (pos (c .strength)) (pos 0) (pos 0) (pos 0) _
-    (omega (arith, h, mul-le-mul (r .behaviour) (r .shear))) (omega (arith, r .strength)) (omega arith) (omega arith) (omega arith)
+    sized (pos (upF x)) (pos (c .strength)) (pos 0) (pos 0) (pos (flag 1 (columnGoverned q c))) _
+    (omega (arith, h, mul-le-mul (r .behaviour) (r .shear))) (omega (arith, r .strength)) (omega arith) (omega arith) (omega (arith, flag-le 1 (columnGoverned q c)))
     (omega (arith, flag-le 1 (ltb (c .strength) (upF x))))
 
 -- ---- beam: the size of V0 is at most 10⁸, and D at most q·VE/120
@@ -56,12 +57,12 @@ module _ (q : ℕ) (b : Beam) (r : BeamRange q b) where
 
   upper-size : natAbs (upS (upperShear q b)) ≤ 433333334
   upper-size =
-      let sum = b .plus1 + b .plus2 in
+      let sum = sumPlus b in
       upS-size (upperShear q b) 433333334 (omega (arith, parts-at-most sum)) (omega (arith, positive sum))
 
   lower-size : natAbs (downS (lowerShear q b)) ≤ 433333334
   lower-size =
-      let sum = b .minus1 + b .minus2 in
+      let sum = sumMinus b in
       downS-size (lowerShear q b) 433333334 (omega (arith, parts-at-most sum)) (omega (arith, positive sum))
 
 pub beam-sized : (q : ℕ) (b : Beam) → BeamRange q b → Sized (beamRow q b)
@@ -69,8 +70,10 @@ unfolding beamRow
 beam-sized q b r =
     let upper = upS (upperShear q b) in
     let lower = downS (lowerShear q b) in
-    sized upper lower (pos (b .strength)) (pos 0) (pos 0) _
-    (omega (arith, upper-size q b r)) (omega (arith, lower-size q b r)) (omega (arith, r .strength)) (omega arith) (omega arith)
+    let plus = beamGoverned q (sumPlus b) b in
+    let minus = beamGoverned q (sumMinus b) b in
+    sized upper lower (pos (b .strength)) (pos (flag 1 plus)) (pos (flag 1 minus)) _
+    (omega (arith, upper-size q b r)) (omega (arith, lower-size q b r)) (omega (arith, r .strength)) (omega (arith, flag-le 1 plus)) (omega (arith, flag-le 1 minus))
     (omega (arith, flag-le 1 (ltZ (pos (b .strength)) upper || ltZ (pos (b .strength)) (negℤ lower))))
 
 -- ---- member without hinges, detail

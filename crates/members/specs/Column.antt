@@ -1,9 +1,10 @@
--- Column (B.1). 01, "Members": smaller of 1400·S/length and q·VE/100, with the larger of the two S; up.
+-- Column (B.1). 01, "Members": smaller of 1400·S/length and q·VE/100, with the larger of the two S; up. Word 6: 02, No. 5.
+use mathlib.Core.Bool.{Bool}
 use mathlib.Core.List.{[], _∷_}
 use Prim.Native.Nat.{ℕ, _+_, _*_, _≤_, max}
 use lib.Dec.{ltb}
 use lib.IntN.{pos}
-use Rattle.exact.specs.Fraction.{Fraction, whole, ratio, smaller, upF}
+use Rattle.exact.specs.Fraction.{Fraction, whole, ratio, ltF, smaller, upF}
 use Rattle.exact.specs.SignedFraction.{signed}
 use Rattle.claims.specs.declared.Row.{Row}
 use Rattle.claims.specs.Verdict.{flag}
@@ -18,15 +19,36 @@ sumPlus c = c .plus1 + c .plus2
 abbrev pub sumMinus : Column → ℕ
 sumMinus c = c .minus1 + c .minus2
 
+abbrev pub largerSum : Column → ℕ
+largerSum c = max (sumPlus c) (sumMinus c)
+
+-- the term of the resistances, and the cap
+abbrev pub columnTerm : Column → Fraction
+columnTerm c = ratio (1400 * largerSum c) (c .length)
+
+abbrev pub columnCap : ℕ → Column → Fraction
+columnCap q c = ratio (q * c .shear) 100
+
 -- the exact design shear
 abbrev pub columnShear : ℕ → Column → Fraction
-columnShear q c = smaller (ratio (1400 * max (sumPlus c) (sumMinus c)) (c .length)) (ratio (q * c .shear) 100)
+columnShear q c = smaller (columnTerm c) (columnCap q c)
 
--- words: V, VR; bit 1 where V exceeds VR
+-- whether the cap was strictly the smaller
+abbrev pub columnGoverned : ℕ → Column → Bool
+columnGoverned q c = ltF (columnCap q c) (columnTerm c)
+
+-- words: V, VR, and in word 6 1 where the cap governs; bit 1 where V exceeds VR
 unfoldable pub columnRow : ℕ → Column → Row
 columnRow q c =
     let v = upF (columnShear q c) in
-    record { word2 = pos v; word3 = pos (c .strength); word4 = pos 0; word5 = pos 0; word6 = pos 0; verdict = pos (flag 1 (ltb (c .strength) v)) }
+    record {
+      word2 = pos v;
+      word3 = pos (c .strength);
+      word4 = pos 0;
+      word5 = pos 0;
+      word6 = pos (flag 1 (columnGoverned q c));
+      verdict = pos (flag 1 (ltb (c .strength) v));
+    }
 
 -- one check: V against VR, within 1
 unfoldable pub columnClaims : ℕ → Column → Row → Claims

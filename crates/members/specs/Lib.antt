@@ -4,3 +4,4 @@ pub mod Beam
 pub mod Hingeless
 pub mod Detail
 pub mod Steps
+pub mod Governs

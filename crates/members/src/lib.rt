@@ -1,6 +1,7 @@
 // Rows of a column, a beam, a member without hinges and a detail: 01, "Members" and "Rows and verdict bits".
 // Every operand is in the range of 01, and every number on the way fits 64 bits.
 use claims::Row;
+use coefficient::Limited;
 use coefficient::Quotient;
 use coefficient::Settings;
 ghost use mathlib.Core.Path.{_≡_};
@@ -9,7 +10,7 @@ ghost use Prim.Native.Nat.{_+_, _*_, _≤_, min};
 ghost use lib.Dec.{eqb};
 ghost use lib.IntN.{pos, negℤ};
 ghost use lib.Signed.{ltZ};
-ghost use Rattle.exact.specs.Fraction.{ratio, smaller};
+ghost use Rattle.exact.specs.Fraction.{ratio, ltF, smaller};
 ghost use Rattle.exact.specs.SignedFraction.{wholeS, signed, _+S_, _-S_, upS, downS};
 ghost use Rattle.claims.specs.Verdict.{flag};
 ghost use Rattle.coefficient.specs.Coefficient.{fraction, CoefficientRange};
@@ -74,7 +75,7 @@ fn lesser(a: u32, b: u32) -> u32
     if a < b { a } else { b }
 }
 
-// The smaller of factor·S/length, the shear with hinges at both ends, and q·VE/divisor.
+// The smaller of factor·S/length, the shear with hinges at both ends, and q·VE/divisor, the cap; and whether the cap governs.
 fn capacity_shear(
     factor: u64,
     sum: u64,
@@ -82,9 +83,10 @@ fn capacity_shear(
     behaviour: u32,
     shear: u32,
     divisor: u64,
-) -> Quotient
+) -> Limited
     requires { ⌜ ShearRange factor sum length behaviour shear divisor ⌝ }
-    ensures { λ r. ⌜ fraction r ≡ smaller (ratio (factor * sum) length) (ratio (behaviour * shear) divisor) ⌝ }
+    ensures value { λ r. ⌜ fraction (r .value) ≡ smaller (ratio (factor * sum) length) (ratio (behaviour * shear) divisor) ⌝ }
+    ensures governs { λ r. ⌜ r .governs ≡ ltF (ratio (behaviour * shear) divisor) (ratio (factor * sum) length) ⌝ }
 {
     coefficient::smaller(
         Quotient {
@@ -122,11 +124,11 @@ fn lower_shear(nonseismic: i32, shear: Quotient) -> i64
     )
 }
 
-// Bit 1 where a shear exceeds VR.
-fn shear_bit(failed: bool) -> i64
-    ensures { λ r. ⌜ r ≡ pos (flag 1 failed) ⌝ }
+// 1 for yes, else 0: bit 1, where a shear exceeds VR, and the words that tell whether the cap governs.
+fn told(yes: bool) -> i64
+    ensures { λ r. ⌜ r ≡ pos (flag 1 yes) ⌝ }
 {
-    claims::word(claims::failed_bit(1, failed))
+    claims::word(claims::flagged(1, yes))
 }
 
 // Bit 1 where upper or minus lower exceeds VR.
@@ -150,15 +152,15 @@ pub fn column_row(behaviour: u32, c: Column) -> Row
         (c.minus1 as u64) + (c.minus2 as u64),
     );
     let shear = capacity_shear(1400, sum, c.length, behaviour, c.shear, 100);
-    let demand = exact::ceil_div_unsigned(shear.num, shear.den);
+    let demand = exact::ceil_div_unsigned(shear.value.num, shear.value.den);
     let strength = c.strength as u64;
     Row {
         word2: claims::word(demand),
         word3: claims::word(strength),
         word4: 0,
         word5: 0,
-        word6: 0,
-        verdict: shear_bit(strength < demand),
+        word6: told(shear.governs),
+        verdict: told(strength < demand),
     }
 }
 
@@ -171,14 +173,14 @@ pub fn beam_row(behaviour: u32, b: Beam) -> Row
     let minus = (b.minus1 as u64) + (b.minus2 as u64);
     let added = capacity_shear(1200, plus, b.length, behaviour, b.shear, 120);
     let taken = capacity_shear(1200, minus, b.length, behaviour, b.shear, 120);
-    let upper = upper_shear(b.nonseismic, added);
-    let lower = lower_shear(b.nonseismic, taken);
+    let upper = upper_shear(b.nonseismic, added.value);
+    let lower = lower_shear(b.nonseismic, taken.value);
     Row {
         word2: upper,
         word3: lower,
         word4: claims::word(b.strength as u64),
-        word5: 0,
-        word6: 0,
+        word5: told(added.governs),
+        word6: told(taken.governs),
         verdict: shears_verdict(upper, lower, b.strength),
     }
 }
@@ -195,7 +197,7 @@ fn end_moment(settings: Settings, j: Joint, moment: u32) -> u64
         j.seismic,
         settings.behaviour,
     );
-    coefficient::product_up(a, moment)
+    coefficient::product_up(a.value, moment)
 }
 
 // D = 1000·(m1 + m2)/length, up.

@@ -5,3 +5,4 @@ pub mod Roots
 pub mod Demands
 pub mod Rows
 pub mod Sizes
+pub mod Governs

@@ -5,13 +5,14 @@ use Prim.Native.Nat.{ℕ, _*_, _≤_, _<_}
 use native.Mathlib.Omega.{arith}
 use Rattle.exact.specs.Fraction.{Fraction, Proper, whole, upF, _*F_, _≈F_}
 use Rattle.exact.proofs.Rounding.{up-same}
-use Rattle.coefficient.specs.declared.Quotient.{Quotient}
+use Rattle.coefficient.specs.declared.Limited.{Limited}
 use Rattle.coefficient.specs.Coefficient.{fraction, CoefficientRange}
 use Rattle.coefficient.proofs.Bounds.{proper, num-le, product-le}
+use Rattle.claims.specs.Verdict.{flag}
 use Rattle.walls.specs.declared.Wall.{Wall}
 use Rattle.walls.specs.declared.WallBase.{WallBase}
 use Rattle.walls.specs.declared.Storey.{Storey}
-use Rattle.walls.specs.Base.{wallCoefficient, baseShear, baseRowFrom, baseRow, WallBaseRange}
+use Rattle.walls.specs.Base.{wallCoefficient, wallGoverned, baseShear, baseRowFrom, baseRow, WallBaseRange}
 use Rattle.walls.specs.Storey.{storeyRowFrom, storeyRow}
 use Rattle.walls.specs.Running.{wallOf, WallRange, SameValues}
 
@@ -37,10 +38,11 @@ wallOf-range q b r =
 -- ---- values and rows
 
 -- the running values are those of the base, from the coefficient and its product
-pub wall-is : (q : ℕ) (b : WallBase) (a : Quotient) (v : ℕ) → fraction a ≡ wallCoefficient q b → v ≡ upF (fraction a *F whole (b .shear)) →
-    _≡_ {A = Wall} (record { coefficient = a; shear = v; resistance = b .resistance }) (wallOf q b)
+pub wall-is : (q : ℕ) (b : WallBase) (a : Limited) (v : ℕ) → fraction (a .value) ≡ wallCoefficient q b → a .governs ≡ wallGoverned q b →
+    v ≡ upF (fraction (a .value) *F whole (b .shear)) → (t : ℕ) → t ≡ flag 1 (a .governs) →
+    _≡_ {A = Wall} (record { coefficient = a .value; shear = v; resistance = b .resistance; governs = t }) (wallOf q b)
 unfolding wallOf
-wall-is q b a v e f = rw f (ap made e)
+wall-is q b a v e g f t k = rw (f, k, g) (ap made e)
   where
     made : Fraction → Wall
     made x =
@@ -48,9 +50,10 @@ wall-is q b a v e f = rw f (ap made e)
           coefficient = record { num = x .num; den = x .den };
           shear = upF (x *F whole (b .shear));
           resistance = b .resistance;
+          governs = flag 1 (wallGoverned q b);
         }
 
-pub base-row-of : (q : ℕ) (b : WallBase) → baseRowFrom (fraction (wallOf q b .coefficient)) (wallOf q b .shear) b ≡ baseRow q b
+pub base-row-of : (q : ℕ) (b : WallBase) → baseRowFrom (fraction (wallOf q b .coefficient)) (wallOf q b .shear) (wallOf q b .governs) b ≡ baseRow q b
 unfolding wallOf baseRow baseRowFrom
 base-row-of q b = refl
 

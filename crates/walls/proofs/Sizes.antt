@@ -8,12 +8,13 @@ use Rattle.exact.proofs.Rounding.{up-le-of}
 use Rattle.coefficient.proofs.Bounds.{product-le}
 use Rattle.cubes.specs.Root.{leastRoot}
 use Rattle.cubes.proofs.Roots.{leastRoot-within}
+use Rattle.claims.specs.Verdict.{flag}
 use Rattle.claims.specs.Sizes.{Sized}
 use Rattle.claims.proofs.Bits.{flag-le}
 use Rattle.claims.proofs.Sizes.{sized}
 use Rattle.walls.specs.declared.WallBase.{WallBase}
 use Rattle.walls.specs.declared.Storey.{Storey}
-use Rattle.walls.specs.Base.{wallCoefficient, baseShear, designMoment, baseRowFrom, baseRow, WallBaseRange}
+use Rattle.walls.specs.Base.{wallCoefficient, wallGoverned, baseShear, designMoment, baseRowFrom, baseRow, WallBaseRange}
 use Rattle.walls.specs.Storey.{designShear, storeyRowFrom, storeyRow, StoreyRange}
 use Rattle.walls.proofs.Ranges.{moment-le}
 use Rattle.walls.proofs.Running.{baseShear-le}
@@ -23,9 +24,9 @@ unfolding baseRow baseRowFrom
 base-sized q b r =
     let v = baseShear q b in
     let m = designMoment (wallCoefficient q b) 1000 (b .moment) (b .resistance) in
-    sized (pos v) (pos (b .strength)) (pos m) (pos (b .resistance)) (pos 0) _
+    sized (pos v) (pos (b .strength)) (pos m) (pos (b .resistance)) (pos (flag 1 (wallGoverned q b))) _
     (omega (arith, baseShear-le q b r)) (omega (arith, r .strength)) (omega (arith, moment-le (wallCoefficient q b) 1000 (b .moment) (b .resistance), r .resistance))
-    (omega (arith, r .resistance)) (omega arith) (omega (arith, flag-le 1 (ltb (b .strength) v), flag-le 128 (leb (b .length) (4 * b .thickness))))
+    (omega (arith, r .resistance)) (omega (arith, flag-le 1 (wallGoverned q b))) (omega (arith, flag-le 1 (ltb (b .strength) v), flag-le 128 (leb (b .length) (4 * b .thickness))))
 
 -- a is at most 4, and k·W/3000 at most a third of W
 shear-le : (q : ℕ) (b : WallBase) (k x : ℕ) → WallBaseRange q b → k ≤ 1000 → x ≤ 100000000 → designShear (wallCoefficient q b) k x (baseShear q b) ≤ 400000000

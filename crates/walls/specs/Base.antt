@@ -1,4 +1,6 @@
 -- Wall base (B.4). 01, "Members": g = 130, R = MR, E = ME. W = a·VE up; moment as for a storey with J = J0.
+-- Word 6: 02, No. 5.
+use mathlib.Core.Bool.{Bool}
 use mathlib.Core.List.{[], _∷_}
 use Prim.Native.Nat.{ℕ, _+_, _*_, _≤_, min, max}
 use lib.Dec.{leb, ltb}
@@ -6,7 +8,7 @@ use lib.IntN.{pos}
 use Rattle.exact.specs.Quotient.{up}
 use Rattle.exact.specs.Fraction.{Fraction, whole, ratio, upF, _*F_}
 use Rattle.exact.specs.SignedFraction.{signed, wholeS}
-use Rattle.coefficient.specs.Coefficient.{coefficientOf}
+use Rattle.coefficient.specs.Coefficient.{coefficientOf, capGoverns}
 use Rattle.claims.specs.declared.Row.{Row}
 use Rattle.claims.specs.Verdict.{flag}
 use Rattle.claims.specs.Exact.{Exact, value, largerOf, smallerOf}
@@ -16,6 +18,10 @@ use Rattle.walls.specs.declared.WallBase.{WallBase}
 -- a of a wall: `resistance` is MR, `moment` ME
 abbrev pub wallCoefficient : ℕ → WallBase → Fraction
 wallCoefficient q b = coefficientOf 130 (b .resistance) (b .moment) q
+
+-- whether the cap q/100 was strictly the smaller, or ME is 0
+abbrev pub wallGoverned : ℕ → WallBase → Bool
+wallGoverned q b = capGoverns 130 (b .resistance) (b .moment) q
 
 -- w, the unrounded base shear: `shear` is VE; W is w up
 abbrev pub exactBaseShear : ℕ → WallBase → Fraction
@@ -37,22 +43,22 @@ abbrev pub exactBaseMoment : ℕ → WallBase → Exact
 exactBaseMoment q b =
     smallerOf (largerOf (value (signed (wallCoefficient q b *F whole (b .moment)))) (value (signed (ratio (b .resistance) 3)))) (value (wholeS (pos (b .resistance))))
 
--- The row from a and W. Words: V, VR, moment, MR; bit 1 where V exceeds VR, bit 128 where the length is not above 4 times the
--- thickness.
-unfoldable pub baseRowFrom : Fraction → ℕ → WallBase → Row
-baseRowFrom a base b =
+-- The row from a, W and the word that tells whether the cap governs a. Words: V, VR, moment, MR, and that word; bit 1 where V exceeds
+-- VR, bit 128 where the length is not above 4 times the thickness.
+unfoldable pub baseRowFrom : Fraction → ℕ → ℕ → WallBase → Row
+baseRowFrom a base governs b =
     record {
       word2 = pos base;
       word3 = pos (b .strength);
       word4 = pos (designMoment a 1000 (b .moment) (b .resistance));
       word5 = pos (b .resistance);
-      word6 = pos 0;
+      word6 = pos governs;
       verdict = pos (flag 1 (ltb (b .strength) base) + flag 128 (leb (b .length) (4 * b .thickness)));
     }
 
 unfoldable pub baseRow : ℕ → WallBase → Row
 unfolding baseRowFrom
-baseRow q b = baseRowFrom (wallCoefficient q b) (baseShear q b) b
+baseRow q b = baseRowFrom (wallCoefficient q b) (baseShear q b) (flag 1 (wallGoverned q b)) b
 
 -- one check, V against VR, within 1; the moment is in no check
 unfoldable pub baseClaims : ℕ → WallBase → Row → Claims

@@ -2,3 +2,4 @@
 pub mod Base
 pub mod Storey
 pub mod Running
+pub mod Governs

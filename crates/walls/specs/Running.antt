@@ -1,12 +1,13 @@
 -- The running values of the latest wall, kept from its base command on: a, W and MR of 01, "Members", wall base and storey; 02,
--- No. 4.
+-- No. 4. With them stands whether q governs a, which the base's own row tells and no storey asks; 02, No. 5.
 use mathlib.Core.Path.{_≡_}
 use Prim.Native.Nat.{ℕ, _≤_, _<_}
 use Rattle.exact.specs.Fraction.{_≈F_}
 use Rattle.coefficient.specs.Coefficient.{fraction}
+use Rattle.claims.specs.Verdict.{flag}
 use Rattle.walls.specs.declared.Wall.{Wall}
 use Rattle.walls.specs.declared.WallBase.{WallBase}
-use Rattle.walls.specs.Base.{wallCoefficient, baseShear}
+use Rattle.walls.specs.Base.{wallCoefficient, wallGoverned, baseShear}
 
 -- those of the wall with this base
 unfoldable pub wallOf : ℕ → WallBase → Wall
@@ -15,6 +16,7 @@ wallOf q b =
       coefficient = record { num = wallCoefficient q b .num; den = wallCoefficient q b .den };
       shear = baseShear q b;
       resistance = b .resistance;
+      governs = flag 1 (wallGoverned q b);
     }
 
 -- what the rows ask of them, met by those of every base in range

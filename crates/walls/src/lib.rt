@@ -31,11 +31,13 @@ pub struct Storey {
     pub resistance: u32,
 }
 
-// The running values of the latest wall: a, W, MR.
+// The running values of the latest wall: W, MR, a; and 1 where q governs a, else 0, for the base's own row. In this order and with this
+// width the struct has no gap.
 pub struct Wall {
-    pub coefficient: Quotient,
     pub shear: u64,
     pub resistance: u32,
+    pub governs: u32,
+    pub coefficient: Quotient,
 }
 
 // The running values from q (hundredths) and the base.
@@ -43,12 +45,14 @@ pub fn wall_of(behaviour: u32, base: WallBase) -> Wall
     requires { ⌜ WallBaseRange behaviour base ⌝ }
     ensures { λ r. ⌜ r ≡ wallOf behaviour base ⌝ }
 {
-    let a = coefficient::coefficient(130, base.resistance, base.moment, behaviour);
+    let limited = coefficient::coefficient(130, base.resistance, base.moment, behaviour);
+    let a = limited.value;
     let shear = coefficient::product_up(a, base.shear);
     Wall {
         coefficient: a,
         shear,
         resistance: base.resistance,
+        governs: claims::flagged(1, limited.governs) as u32,
     }
 }
 
@@ -85,7 +89,7 @@ fn design_moment(a: Quotient, k: u64, moment: u32, resistance: u64) -> u64
 pub fn base_row(wall: Wall, base: WallBase) -> Row
     requires wall { ⌜ WallRange wall ⌝ }
     requires moment { ⌜ base .moment ≤ 100000000 ⌝ }
-    ensures { λ r. ⌜ r ≡ baseRowFrom (fraction (wall .coefficient)) (wall .shear) base ⌝ }
+    ensures { λ r. ⌜ r ≡ baseRowFrom (fraction (wall .coefficient)) (wall .shear) (wall .governs) base ⌝ }
 {
     let a = wall.coefficient;
     let v = wall.shear;
@@ -98,7 +102,7 @@ pub fn base_row(wall: Wall, base: WallBase) -> Row
         base.strength as u64,
         m,
         base.resistance as u64,
-        0,
+        wall.governs as u64,
         verdict,
     )
 }

@@ -6,22 +6,22 @@ use borrow.Author.Needs.{needs}
 use Rattle.claims.proofs.verdict_of.Statement.{statement}
 use Rattle.claims.proofs.verdict_of.Tie as tie
 
-failed-bit-requires : tie.Need-failed-bit-requires
-failed-bit-requires c κs = search needs
+flagged-requires : tie.Need-flagged-requires
+flagged-requires c κs = search needs
 
-failed-bit-requires-2 : tie.Need-failed-bit-requires-2
-failed-bit-requires-2 c κs = search needs
+flagged-requires-2 : tie.Need-flagged-requires-2
+flagged-requires-2 c κs = search needs
 
-both : (c : tie.After-failed-bit2) → c .before .failed-bit .result + c .failed-bit2 .result ≤ c .before .before .args .bit + c .before .before .args .other
+both : (c : tie.After-flagged2) → c .before .flagged .result + c .flagged2 .result ≤ c .before .before .args .bit + c .before .before .args .other
 both c =
     let s = c .before .before .args in
-    omega (arith, c .before .failed-bit .ensures, c .failed-bit2 .ensures, flag-le (s .bit) (s .failed), flag-le (s .other) (s .broken))
+    omega (arith, c .before .flagged .ensures, c .flagged2 .ensures, flag-le (s .bit) (s .failed), flag-le (s .other) (s .broken))
 
 add-result : tie.Need-add-result
 add-result c = omega (arith, both c)
 
 returns : tie.Need-returns
-returns c = (rw (c .before .failed-bit .ensures, c .failed-bit2 .ensures), both c)
+returns c = (rw (c .before .flagged .ensures, c .flagged2 .ensures), both c)
 
 pub verdict-of-spec : {M : Type 1} → statement M
-verdict-of-spec = tie.close (tie.spec failed-bit-requires failed-bit-requires-2 add-result returns)
+verdict-of-spec = tie.close (tie.spec flagged-requires flagged-requires-2 add-result returns)

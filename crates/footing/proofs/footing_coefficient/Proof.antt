@@ -8,7 +8,7 @@ coefficient-requires c κs =
     record { overstrength = r .foundations; resistance = r .resistance; seismic = r .moment; behaviour = r .behaviour }
 
 returns : tie.Need-returns
-returns c = c .coefficient .ensures
+returns c = c .before .coefficient .ensures .0
 
 pub footing-coefficient-spec : {M : Type 1} → statement M
 footing-coefficient-spec = tie.close (tie.spec coefficient-requires returns)

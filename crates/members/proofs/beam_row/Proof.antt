@@ -1,4 +1,5 @@
--- `members::beam_row` meets its contract: V0 plus and minus the shear of each direction, in the row of specs/ (Rows.antt). Assumes nothing.
+-- `members::beam_row` meets its contract: V0 plus and minus the shear of each direction, and the flag of each, in the row of specs/
+-- (Rows.antt). Assumes nothing.
 use native.Mathlib.Omega.{arith}
 use borrow.Author.Needs.{needs}
 use Rattle.exact.proofs.Integers.{returned, read-as, read32}
@@ -37,8 +38,8 @@ upper-shear-requires c κs =
     let b = s .args .b in
     let x = c .before .before .capacity-shear in
     rw (read32 (b .nonseismic) (s .pre .nonseismic))
-    (add-range (b .nonseismic) (x .result) (s .pre .nonseismic)
-    (bounded (x .result) (x .ensures) (capacity-shear-requires (c .before .before .before) tt) (omega (arith, s .pre .length-least)) (omega arith)))
+    (add-range (b .nonseismic) (x .result .value) (s .pre .nonseismic)
+    (bounded (x .result .value) (x .ensures .0) (capacity-shear-requires (c .before .before .before) tt) (omega (arith, s .pre .length-least)) (omega arith)))
 
 lower-shear-requires : tie.Need-lower-shear-requires
 lower-shear-requires c κs =
@@ -46,8 +47,8 @@ lower-shear-requires c κs =
     let b = s .args .b in
     let x = c .before .before .before .capacity-shear2 in
     rw (read32 (b .nonseismic) (s .pre .nonseismic))
-    (add-range (b .nonseismic) (x .result) (s .pre .nonseismic)
-    (bounded (x .result) (x .ensures) (capacity-shear-requires-2 (c .before .before .before .before) tt) (omega (arith, s .pre .length-least)) (omega arith)))
+    (add-range (b .nonseismic) (x .result .value) (s .pre .nonseismic)
+    (bounded (x .result .value) (x .ensures .0) (capacity-shear-requires-2 (c .before .before .before .before) tt) (omega (arith, s .pre .length-least)) (omega arith)))
 
 cast-word : tie.Need-cast-word
 cast-word c = search needs
@@ -55,12 +56,20 @@ cast-word c = search needs
 word-requires : tie.Need-word-requires
 word-requires c κs = search needs
 
+told-requires : tie.Need-told-requires
+told-requires c κs = search needs
+
+told-requires-2 : tie.Need-told-requires-2
+told-requires-2 c κs = search needs
+
 shears-verdict-requires : tie.Need-shears-verdict-requires
 shears-verdict-requires c κs = search needs
 
 returns : tie.Need-returns
 returns c =
-    let l = c .before .before .before in
+    let m = c .before in
+    let p = m .before in
+    let l = p .before .before .before in
     let u = l .before .before in
     let y = u .before .before in
     let x = y .before in
@@ -72,11 +81,13 @@ returns c =
     let ru = returned {z = u .upper-shear .result} (u .upper-shear .ok) in
     let rl = returned {z = l .lower-shear .result} (l .lower-shear .ok) in
     let v = c .shears-verdict in
-    let w = c .before .word in
+    let w = p .before .word in
     let verdict = rw (ru, rl) at (v .ensures) in
-    rw (ru, rl, read-as (w .ensures) (w .ok), returned {z = v .result} (v .ok))
-    (beam-is (s .args .behaviour) b (u .upper-shear .result) (l .lower-shear .result) (v .result) (x .capacity-shear .result) (y .capacity-shear2 .result)
-    (x .capacity-shear .ensures) (y .capacity-shear2 .ensures) upper lower verdict)
+    let rp = returned {z = p .told .result} (p .told .ok) in
+    let rm = returned {z = m .told2 .result} (m .told2 .ok) in
+    rw (ru, rl, read-as (w .ensures) (w .ok), rp, rm, returned {z = v .result} (v .ok))
+    (beam-is (s .args .behaviour) b (u .upper-shear .result) (l .lower-shear .result) (p .told .result) (m .told2 .result) (v .result) (x .capacity-shear .result)
+    (y .capacity-shear2 .result) (x .capacity-shear .ensures) (y .capacity-shear2 .ensures) upper lower (p .told .ensures) (m .told2 .ensures) verdict)
 
 pub beam-row-spec : {M : Type 1} → statement M
 beam-row-spec =
@@ -94,5 +105,7 @@ beam-row-spec =
     lower-shear-requires
     cast-word
     word-requires
+    told-requires
+    told-requires-2
     shears-verdict-requires
     returns)

@@ -1,11 +1,11 @@
--- `members::column_row` meets its contract: the exact shear, up, in the row of specs/ (Rows.antt). Assumes nothing.
+-- `members::column_row` meets its contract: the exact shear, up, and the flag, in the row of specs/ (Rows.antt). Assumes nothing.
 use mathlib.Core.Path.{_≡_}
 use native.Mathlib.Omega.{arith}
 use borrow.Author.Needs.{needs}
 use Rattle.exact.proofs.Integers.{returned, read-as}
 use Rattle.exact.proofs.Rounding.{up-le-self}
 use Rattle.coefficient.specs.Coefficient.{fraction}
-use Rattle.members.specs.Column.{columnShear}
+use Rattle.members.specs.Column.{columnShear, columnGoverned}
 use Rattle.members.proofs.Steps.{Bounded, bounded}
 use Rattle.members.proofs.Rows.{column-is}
 use Rattle.members.proofs.column_row.Statement.{statement}
@@ -35,10 +35,10 @@ larger-requires c κs = search needs
 capacity-shear-requires : tie.Need-capacity-shear-requires
 capacity-shear-requires c κs = search needs
 
-in-bounds : (c : tie.After-capacity-shear) → Bounded (fraction (c .capacity-shear .result))
+in-bounds : (c : tie.After-capacity-shear) → Bounded (fraction (c .capacity-shear .result .value))
 in-bounds c =
     let s = c .before .before .before .before .before .before in
-    bounded (c .capacity-shear .result) (c .capacity-shear .ensures) (capacity-shear-requires (c .before) tt) (omega (arith, s .pre .length-least)) (omega arith)
+    bounded (c .capacity-shear .result .value) (c .capacity-shear .ensures .0) (capacity-shear-requires (c .before) tt) (omega (arith, s .pre .length-least)) (omega arith)
 
 ceil-div-unsigned-requires : tie.Need-ceil-div-unsigned-requires
 ceil-div-unsigned-requires c κs = in-bounds c .positive
@@ -49,27 +49,34 @@ cast-strength c = search needs
 word-requires : tie.Need-word-requires
 word-requires c κs =
     let d = c .before in
-    let x = d .before .capacity-shear .result in
+    let x = d .before .capacity-shear .result .value in
     let b = in-bounds (d .before) in
     omega (arith, d .ceil-div-unsigned .ensures, up-le-self (x .num) (x .den) (b .positive), b .num)
 
 word-requires-2 : tie.Need-word-requires-2
 word-requires-2 c κs = search needs
 
-shear-bit-requires : tie.Need-shear-bit-requires
-shear-bit-requires c κs = search needs
+told-requires : tie.Need-told-requires
+told-requires c κs = search needs
+
+told-requires-2 : tie.Need-told-requires-2
+told-requires-2 c κs = search needs
 
 returns : tie.Need-returns
 returns c =
-    let d = c .before .before .before .before in
+    let d = c .before .before .before .before .before in
     let x = d .before in
     let s = x .before .before .before .before .before .before in
-    let w2 = c .before .before .word in
-    let w3 = c .before .word2 in
-    let v = c .shear-bit in
-    let exact : fraction (x .capacity-shear .result) ≡ columnShear (s .args .behaviour) (s .args .c) = rw (x .before .larger .ensures) at (x .capacity-shear .ensures) in
-    rw (read-as (w2 .ensures) (w2 .ok), read-as (w3 .ensures) (w3 .ok), returned {z = v .result} (v .ok))
-    (column-is (s .args .behaviour) (s .args .c) (d .ceil-div-unsigned .result) (v .result) (x .capacity-shear .result) exact (d .ceil-div-unsigned .ensures) (v .ensures))
+    let w2 = c .before .before .before .word in
+    let w3 = c .before .before .word2 in
+    let w6 = c .before .told in
+    let v = c .told2 in
+    let l = x .before .larger .ensures in
+    let exact : fraction (x .capacity-shear .result .value) ≡ columnShear (s .args .behaviour) (s .args .c) = rw l at (x .capacity-shear .ensures .0) in
+    let governed : x .capacity-shear .result .governs ≡ columnGoverned (s .args .behaviour) (s .args .c) = rw l at (x .capacity-shear .ensures .1) in
+    rw (read-as (w2 .ensures) (w2 .ok), read-as (w3 .ensures) (w3 .ok), returned {z = w6 .result} (w6 .ok), returned {z = v .result} (v .ok))
+    (column-is (s .args .behaviour) (s .args .c) (d .ceil-div-unsigned .result) (w6 .result) (v .result) (x .capacity-shear .result) exact governed
+    (d .ceil-div-unsigned .ensures) (w6 .ensures) (v .ensures))
 
 pub column-row-spec : {M : Type 1} → statement M
 column-row-spec =
@@ -87,5 +94,6 @@ column-row-spec =
     cast-strength
     word-requires
     word-requires-2
-    shear-bit-requires
+    told-requires
+    told-requires-2
     returns)

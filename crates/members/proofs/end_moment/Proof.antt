@@ -15,13 +15,13 @@ coefficient-requires c κs = search needs
 product-up-requires : tie.Need-product-up-requires
 product-up-requires c κs =
     let s = c .before .before in
-    let e = rw (c .before .lesser .ensures) at (c .coefficient .ensures) in
+    let e = rw (c .before .lesser .ensures) at (c .coefficient .ensures .0) in
     coefficient-fits e (s .pre .0) (s .pre .1)
 
 returns : tie.Need-returns
 returns c =
     let s = c .before .before .before in
-    let e = rw (c .before .before .lesser .ensures) at (c .before .coefficient .ensures) in
+    let e = rw (c .before .before .lesser .ensures) at (c .before .coefficient .ensures .0) in
     c .product-up .ensures ∙ ap (λ (a : Fraction). upF (a *F whole (s .args .moment))) e
 
 pub end-moment-spec : {M : Type 1} → statement M

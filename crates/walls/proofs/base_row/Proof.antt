@@ -36,13 +36,16 @@ cast-packed c = search needs
 cast-packed-2 : tie.Need-cast-packed-2
 cast-packed-2 c = search needs
 
+cast-packed-3 : tie.Need-cast-packed-3
+cast-packed-3 c = search needs
+
 packed-requires : tie.Need-packed-requires
 packed-requires c κs = search needs
 
 returns : tie.Need-returns
 unfolding baseRowFrom
 returns c =
-    let v = c .before .before .before in
+    let v = c .before .before .before .before in
     let m = v .before .before .before .before in
     rw (c .packed .ensures, v .verdict-of .ensures .0, m .design-moment .ensures)
 
@@ -59,5 +62,6 @@ base-row-spec =
     verdict-of-requires
     cast-packed
     cast-packed-2
+    cast-packed-3
     packed-requires
     returns)
