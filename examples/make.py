@@ -52,6 +52,8 @@ def write(folder, name, commands):
 SETTINGS = command("settings", "settings", q=350, gj=140, gf=120)
 GRANULAR, COHESIVE = 0, 1
 COLUMN, BEAM, WALL_BASE = 0, 1, 2
+# Flags of a footing: bits 0 and 1 (uncertainties minimised, strict tolerances), and bit 2 (full contact, so that P counts).
+BOTH, CONTACT = 3, 4
 
 # A beam: end 1 is the left one; R1plus and R2minus are strengths in hogging, R2plus and R1minus in sagging.
 B1 = dict(length=5600, R1plus=245000, R2plus=150000, R1minus=140000, R2minus=260000, VE=55000)
@@ -60,9 +62,13 @@ B1 = dict(length=5600, R1plus=245000, R2plus=150000, R1minus=140000, R2minus=260
 C1 = dict(length=3000, R1plus=200000, R2plus=200000, R1minus=180000, R2minus=210000, VE=80000, VR=180000)
 C2 = dict(length=3000, R1plus=50000, R2plus=50000, R1minus=50000, R2minus=50000, VE=80000, VR=60000)
 F1 = dict(B=2200, L=2200, MR=260000, ME=130000, NV=800000, NE=0, XV=20000, XE=60000,
-          YV=0, YE=0, HV=15000, HE=55000, U=0, P=100000, flags=0)
+          YV=0, YE=0, HV=15000, HE=55000, U=0, P=100000, flags=CONTACT)
 F2 = dict(B=1800, L=1800, MR=260000, ME=130000, NV=800000, XV=50000, XE=110000,
           YV=0, YE=0, HV=15000, HE=55000, U=0, P=0, flags=0)
+F3 = dict(B=2000, L=3000, MR=400000, ME=200000, NV=1000000, NE=100000, XV=50000, XE=20000,
+          YV=0, YE=0, HV=20000, HE=60000, U=0, P=100000)
+F4 = dict(B=2000, L=2600, MR=260000, ME=130000, NV=650000, NE=90000, XV=-40000, XE=110000,
+          YV=0, YE=25000, HV=15000, HE=90000, U=50000, P=60000)
 N1 = dict(length=3000, ME1=60000, ME2=60000, V0=-20000, VR=130000)
 N2 = dict(length=3200, ME1=110000, ME2=110000, V0=35000, VR=250000)
 
@@ -165,13 +171,22 @@ JOBS = {
         command("footing", "footing F1", B=2200, L=2200, MR=260000, ME=130000, NV=1000000, NE=0, XV=15000, XE=60000,
                 YV=10000, YE=20000, HV=12000, HE=55000, U=0, P=0, flags=0),
         command("footing", "footing F2", B=2000, L=2600, MR=260000, ME=130000, NV=650000, NE=90000, XV=-40000, XE=110000,
-                YV=0, YE=25000, HV=15000, HE=60000, U=50000, P=80000, flags=3),
+                YV=0, YE=25000, HV=15000, HE=60000, U=50000, P=80000, flags=BOTH + CONTACT),
         command("soil", "cohesive soil, 80 kPa, sensitive", kind=COHESIVE, value=80.0, sensitive=1),
-        command("footing", "footing F3", B=2400, L=2400, MR=260000, ME=130000, NV=900000, NE=-75000, XV=20000, XE=80000,
+        command("footing", "footing F3, beside a trench", B=2400, L=2400, MR=260000, ME=130000, NV=900000, NE=-75000, XV=20000, XE=80000,
                 YV=-10000, YE=30000, HV=10000, HE=65000, U=0, P=60000, flags=0),
         command("soil", "cohesive soil, 120.5 kPa", kind=COHESIVE, value=120.5, sensitive=0),
         command("footing", "footing F4, light", B=1800, L=1800, MR=150000, ME=90000, NV=250000, NE=120000, XV=5000, XE=20000,
                 YV=0, YE=0, HV=5000, HE=18000, U=0, P=0, flags=0),
+    ],
+    # Two footings, each first beside a service trench, so that its passive thrust does not count, then with full contact.
+    "contact": [
+        SETTINGS,
+        command("soil", "granular soil, tangent 0.5", kind=GRANULAR, value=0.5, sensitive=0),
+        command("footing", "footing F1, beside a trench", **F3, flags=0),
+        command("footing", "footing F1, full contact", **F3, flags=CONTACT),
+        command("footing", "footing F2, beside a trench", **F4, flags=BOTH),
+        command("footing", "footing F2, full contact", **F4, flags=BOTH + CONTACT),
     ],
     # Details of plastic hinges; one lap lies at a wall base.
     "details": [
@@ -242,6 +257,11 @@ JOBS = {
         command("no_hinges", "member N1, between joints like J1", joint1=1, joint2=1, **N1 | dict(VR=100000)),
         command("joint", "joint J2, with the id of J1", id=1, RB=150000, RC=500000, EB=200000),
         command("no_hinges", "member N1, meant between joints like J1", joint1=1, joint2=1, **N1 | dict(VR=100000)),
+        command("soil", "granular soil, 35 degrees as tangent, again", kind=GRANULAR, value=TANGENT_35, sensitive=0),
+        command("footing", "footing F1, contact not declared", **F1 | dict(flags=0)),
+        command("soil", "granular soil, tangent 0.5, again", kind=GRANULAR, value=0.5, sensitive=0),
+        command("footing", "footing F2, beside a trench", **F4, flags=BOTH),
+        command("footing", "footing F2, beside a trench, contact declared", **F4, flags=BOTH + CONTACT),
     ],
 }
 

@@ -11,7 +11,7 @@ mod reference;
 use reference::{Command, Printed, Written};
 
 /// Cases of later requests have a higher level.
-const LEVEL: u32 = 5;
+const LEVEL: u32 = 6;
 
 /// What the bytes lent hold before the call; those after what was written must keep it.
 const AS_LENT: u8 = 0xA5;

@@ -30,19 +30,11 @@ type Command = Vec<u8>;
 type Row = [i64; ROW];
 
 fn main() {
-    let (shears, seed) = rounds::arguments();
-    let mut random = Random::new(seed);
-    let mut met = Met::default();
-    let mut compared = 0;
-    while compared < shears {
+    rounds::compared("shears", wanted(), |random, met| {
         let commands = random.between(2, 40) as usize;
-        let job = generate::split(&generate::valid(&mut random, commands, &MIX));
-        compared += compare(&mut random, &job, &mut met).unwrap_or_else(|words| {
-            println!("after {compared} shears: {words}");
-            std::process::exit(1);
-        });
-    }
-    met.finish(compared, "shears", wanted());
+        let job = generate::split(&generate::valid(random, commands, &MIX));
+        compare(random, &job, met)
+    });
 }
 
 // The changes.

@@ -2,9 +2,10 @@
 //! the rows; writes each command of each accepted job again, and prints the page of its rows. Arguments: jobs, seed. Prints `N jobs
 //! agree`, or the first disagreement with its job in hexadecimal. A run of 100,000 jobs or more fails too when an operand was never at
 //! fault, when fewer than a tenth of the jobs are accepted ones with a joint revised between members, when no page had a form feed, or
-//! when one of the cases that `wanted` lists was met fewer than ten times in accepted jobs.
+//! when one of the cases that `wanted` lists was met fewer than ten times.
 //! Assumes nothing. Built by tests/run.
 
+mod footings;
 mod generate;
 mod library;
 mod reference;
@@ -65,7 +66,7 @@ struct Tally {
     /// Pages of accepted jobs, and those with a form feed.
     printed: u64,
     feeds: u64,
-    /// Cases of the commands of accepted jobs.
+    /// Cases of the commands of accepted jobs, and of flags refused.
     met: Met,
     /// By number, from 1 to 9.
     refused: [u64; 10],
@@ -74,9 +75,10 @@ struct Tally {
 }
 
 impl Tally {
-    fn fault(&mut self, fault: &Fault) {
+    fn fault(&mut self, job: &[u8], fault: &Fault) {
         if fault.number == 5 {
             self.at_fault[fault.command as usize][fault.operand as usize] += 1;
+            self.met.add(flags_refused(job, fault));
         }
     }
 
@@ -171,7 +173,7 @@ fn compare(random: &mut Random, job: &[u8], tally: &mut Tally) -> Result<(), Str
     same("size", &library::size(job), &size)?;
     let fault = reference::fault(job);
     same("fault", &library::fault(job), &fault)?;
-    tally.fault(&fault);
+    tally.fault(job, &fault);
     tally.revised += u64::from(size.is_ok() && generate::revised_between_members(job));
     if let Ok(rows) = size {
         tally.written += written_again(job)?;
@@ -335,53 +337,46 @@ fn take_down(random: &mut Random) -> Result<(), String> {
 
 // The cases.
 
-/// A footing with bit 4 where the exception asks for a coefficient below q/100 and it is equal.
-const EXCEPTED_BUT_EQUAL: &str = "footing: excepted but for a coefficient equal to the cap";
-
 /// What the commands of an accepted job are cases of.
 fn cases(job: &[u8], rows: usize) -> Vec<String> {
     let mut words = vec![0; ROW * rows];
     let _ = reference::run(job, &mut words);
     let rows = words.as_chunks::<ROW>().0;
-    let commands = generate::split(job);
-    let [q, gf] = [1, 5].map(|at| u64::from(u16::from_be_bytes([job[at], job[at + 1]])));
+    let q = u64::from(u16::from_be_bytes([job[1], job[2]]));
     let mut cases = Vec::new();
-    let mut sensitive = false;
-    let mut at = 0;
-    for command in &commands {
-        cases.extend(shears::cases(q, command));
-        match command[0] {
-            8 => sensitive = command[6] == 1,
-            9 if !sensitive && q > 100 && command[57] == 3 && equal(command, gf, q) => {
-                let first = rows.partition_point(|row| row[0] < at as i64);
-                let excepted = rows[first..first + 2]
-                    .iter()
-                    .filter(|row| row[7] & 4 != 0 && within_halves(command, row));
-                cases.extend(excepted.map(|_| EXCEPTED_BUT_EQUAL.to_string()));
-            }
-            _ => (),
+    for command in generate::split(job) {
+        cases.extend(shears::cases(q, &command));
+    }
+    for footing in footings::of(job) {
+        let first = rows.partition_point(|row| row[0] < footing.at as i64);
+        for row in &rows[first..first + 2] {
+            cases.extend(footing.cases(row));
         }
-        at += command.len();
     }
     cases
 }
 
-/// Whether g·MR = q·ME of a footing, with a seismic moment.
-fn equal(footing: &[u8], g: u64, q: u64) -> bool {
-    let [mr, me] = [9, 13].map(|at| u64::from(word(footing, at)));
-    me > 0 && g * mr == q * me
+/// Of a refusal with 5: whether it is for the flags of a footing that are the least above the range, the most, or others.
+fn flags_refused(job: &[u8], fault: &Fault) -> Vec<String> {
+    if fault.command != 9 || fault.operand != 14 {
+        return vec![];
+    }
+    let flags = match job[fault.offset + footings::FLAGS] {
+        LEAST_REFUSED => "8",
+        u8::MAX => "255",
+        _ => "between",
+    };
+    vec![refused(flags)]
 }
 
-/// Whether both eccentricities of a footing's row are below half its sides.
-fn within_halves(footing: &[u8], row: &[i64; ROW]) -> bool {
-    2 * row[3] < i64::from(word(footing, 1)) && 2 * row[4] < i64::from(word(footing, 5))
-}
+const LEAST_REFUSED: u8 = footings::MOST_FLAGS + 1;
 
-fn word(command: &[u8], at: usize) -> u32 {
-    u32::from_be_bytes(command[at..at + 4].try_into().expect("four bytes"))
+fn refused(flags: &str) -> String {
+    format!("footing: flags refused, {flags}")
 }
 
 /// The cases that must be met.
 fn wanted() -> Vec<String> {
-    [shears::wanted(), vec![EXCEPTED_BUT_EQUAL.to_string()]].concat()
+    let refusals = ["8", "255", "between"].map(refused).to_vec();
+    [shears::wanted(), footings::wanted(), refusals].concat()
 }

@@ -233,11 +233,7 @@ impl<'r> Writer<'r> {
         let element = self.values.strength_and_demand(self.values.gf);
         let loads = self.values.loads(sides);
         let [u, p] = [(); 2].map(|()| self.values.amount());
-        let flags = if self.values.random.one_in(2) {
-            3
-        } else {
-            self.values.random.below(4) as u8
-        };
+        let flags = self.values.flags();
         self.words(&sides);
         self.words(&element);
         loads.iter().for_each(|&load| self.signed(load));
@@ -260,20 +256,36 @@ impl<'r> Writer<'r> {
 // Strengths at the demand.
 
 /// Sets the strengths of an accepted job at the demand ±2, here and there within a 2000th of it; of a footing its
-/// sides at 2, 3 or 4 eccentricities and then the passive thrust; of a detail xu. The job stays accepted.
+/// sides at 2, 3 or 4 eccentricities and then H at R; of a detail xu. The job stays accepted.
 pub fn at_demand(random: &mut Random, job: &mut [u8]) {
     for row in rows_of(job) {
         set_strength(random, job, &row);
     }
+    let mut set = None;
     for row in rows_of(job) {
-        if row[1] == 9 && row[2] >= 20_000 && random.one_in(2) {
-            let offset = row[0] as usize + 53;
-            let base = row[6] - 2 * i64::from(read(job, offset)) / 5;
-            let wanted = (random.near(row[5]) - base) * 5;
-            put(job, offset, (wanted + 1).div_euclid(2), 0, LIMIT);
+        if row[1] == 9 && row[2] >= 20_000 && set != Some(row[0]) && random.one_in(2) {
+            set_sliding(random, job, &row);
+            set = Some(row[0]);
         }
     }
     debug_assert!(size(job).is_ok());
+}
+
+/// Sets H of a footing's row at R: by the passive thrust, where the contact lets it count (02, No. 6), or by HV, which does so where the
+/// horizontal force has the sign of HV.
+fn set_sliding(random: &mut Random, job: &mut [u8], row: &[i64; ROW]) {
+    let [hv, p, flags] = [41, 53, 57].map(|place| row[0] as usize + place);
+    let [h, r] = [row[5], row[6]];
+    if job[flags] & 4 != 0 && random.one_in(2) {
+        let base = r - 2 * i64::from(read(job, p)) / 5;
+        let wanted = (random.near(h) - base) * 5;
+        put(job, p, (wanted + 1).div_euclid(2), 0, LIMIT);
+    } else {
+        let before = i64::from(read(job, hv) as i32);
+        let more = random.near(r) - h;
+        let sign = if before < 0 { -1 } else { 1 };
+        put(job, hv, before + sign * more, -(LIMIT as i64), LIMIT);
+    }
 }
 
 fn rows_of(job: &[u8]) -> Vec<[i64; ROW]> {

@@ -194,7 +194,7 @@ impl Plain for Footing {
             && side.contains(&self.l)
             && amounts([self.mr, self.me, self.u, self.p])
             && loads(actions)
-            && self.flags <= 3;
+            && self.flags <= 7;
         put::<58>(in_range, bytes, |b| {
             b[0] = 9;
             words(b, 1, [self.b, self.l, self.mr, self.me]);

@@ -1,5 +1,5 @@
-//! Document 01 with requests No. 1 to 3 and 5 of document 02 in plain Rust: size, run, total, take-down, writing a command and printing
-//! a page, written from the papers; and the operand at fault.
+//! Document 01 with requests No. 1 to 3, 5 and 6 of document 02 in plain Rust: size, run, total, take-down, writing a command and
+//! printing a page, written from the papers; and the operand at fault.
 //! Assumes nothing of the job's bytes, the rows or the number of rows.
 
 mod footing;

@@ -3,6 +3,7 @@
 
 #![allow(dead_code)]
 
+use crate::generate::Random;
 use std::collections::BTreeMap;
 
 /// Rounds among which each case is met often enough, and how often that is.
@@ -15,6 +16,26 @@ pub fn arguments() -> (u64, u64) {
         .skip(1)
         .map(|text| text.parse().expect("a number"));
     (numbers.next().unwrap_or(MANY), numbers.next().unwrap_or(1))
+}
+
+/// Compares until as many were compared as the arguments ask for. `compare` answers how many it compared, or the first disagreement in
+/// words, which ends the program.
+pub fn compared(
+    what: &str,
+    wanted: Vec<String>,
+    compare: impl Fn(&mut Random, &mut Met) -> Result<u64, String>,
+) {
+    let (asked, seed) = arguments();
+    let mut random = Random::new(seed);
+    let mut met = Met::default();
+    let mut done = 0;
+    while done < asked {
+        done += compare(&mut random, &mut met).unwrap_or_else(|words| {
+            println!("after {done} {what}: {words}");
+            std::process::exit(1);
+        });
+    }
+    met.finish(done, what, wanted);
 }
 
 /// How often each case was met.

@@ -205,6 +205,7 @@ def refused_writes(library, commands, most, same):
     same("an id of 300", (5, 0, 0), values(library.eak_write_joint(joint(300, 0, 0, 0), lent, most)))
     same("q 70,000 in no bytes", (5, 0, 0), values(library.eak_write_settings(settings(70000, 140, 120), lent, 0)))
     same("settings in six bytes", (11, 0, 0), values(library.eak_write_settings(settings(350, 140, 120), lent, 6)))
+    same("flags 8 in no bytes", (5, 0, 0), values(library.eak_write_footing(footing(500, 500, flags=8), lent, 0)))
     same("the end in no bytes", (11, 0, 0), values(library.eak_write_end(lent, 0)))
     same("the bytes of refused commands", {0x5A}, set(lent))
     same("the most bytes", (0, 0, most), values(library.eak_write_footing(footing(500, 500), lent, most)))

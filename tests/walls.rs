@@ -37,18 +37,10 @@ type Command = Vec<u8>;
 type Words = [i64; 6];
 
 fn main() {
-    let (storeys, seed) = rounds::arguments();
-    let mut random = Random::new(seed);
-    let mut met = Met::default();
-    let mut compared = 0;
-    while compared < storeys {
-        let job = draw(&mut random);
-        compared += compare(&mut random, &job, &mut met).unwrap_or_else(|words| {
-            println!("after {compared} storeys: {words}");
-            std::process::exit(1);
-        });
-    }
-    met.finish(compared, "storeys", wanted());
+    rounds::compared("storeys", wanted(), |random, met| {
+        let job = draw(random);
+        compare(random, &job, met)
+    });
 }
 
 // The jobs.

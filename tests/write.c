@@ -25,7 +25,7 @@ static const struct eak_storey storeys[] = {
 /* kind, value, sensitive */
 static const struct eak_soil soil = {0, 0.7f, 0};
 /* b, l, mr, me, nv, ne, xv, xe, yv, ye, hv, he, u, p, flags */
-static const struct eak_footing footing = {2200, 2200, 260000, 130000, 800000, 0, 20000, 60000, 0, 0, 15000, 55000, 0, 100000, 0};
+static const struct eak_footing footing = {2200, 2200, 260000, 130000, 800000, 0, 20000, 60000, 0, 0, 15000, 55000, 0, 100000, 4};
 /* place, xu, xy, mu, lap */
 static const struct eak_detail detail = {2, 131, 250, 1000, 0};
 

@@ -38,7 +38,7 @@ pub fn operands(code: u8) -> Vec<Operand> {
         9 => [
             vec![SIDE, SIDE, AMOUNT, AMOUNT],
             vec![Signed; 8],
-            vec![AMOUNT, AMOUNT, Unsigned(1, 0, 3)],
+            vec![AMOUNT, AMOUNT, Unsigned(1, 0, 7)],
         ]
         .concat(),
         10 => vec![
@@ -101,12 +101,15 @@ pub fn one_of(random: &mut Random, first: u64, last: u64) -> u64 {
 }
 
 /// Puts faults into a command in range: one operand or two out of range, or the relation broken, alone or with an operand out of
-/// range. A command without operands stays.
+/// range; in a footing often the flags alone. A command without operands stays.
 pub fn put(random: &mut Random, command: &mut [u8]) {
     let operands = operands(command[0]);
     let mut ranged: Vec<usize> = (0..operands.len())
         .filter(|&place| operands[place].has_range())
         .collect();
+    if command[0] == 9 && random.one_in(4) {
+        ranged = vec![operands.len() - 1];
+    }
     let related = matches!(command[0], 7 | 8) && random.one_in(2);
     if related {
         break_relation(random, command);

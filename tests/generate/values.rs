@@ -233,6 +233,12 @@ impl<'r> Values<'r> {
         }
     }
 
+    /// The flags of a footing; those of which the exception of bit 4 asks are set more often than others.
+    pub fn flags(&mut self) -> u8 {
+        let both = if self.random.one_in(2) { 3 } else { 0 };
+        both | self.random.below(8) as u8
+    }
+
     /// NV, NE, XV, XE, YV, YE, HV, HE of a footing: mostly with a normal force that presses and eccentricities of
     /// the order of the sides.
     pub fn loads(&mut self, sides: [u64; 2]) -> [i64; 8] {

@@ -1,4 +1,4 @@
-//! Soil and footings of document 01: operands, ranges and words 2 to 7 of their rows.
+//! Soil and footings of document 01: operands, ranges and words 2 to 7 of their rows; flags as in document 02, No. 6.
 //! Assumes of a row's operands that they are in range and that a soil was given.
 
 use super::members::{bits, signed, wide, within, word, Coefficient};
@@ -7,6 +7,11 @@ use super::{take_down, Held};
 
 /// Least normal force whose eccentricities and resistance are reported.
 const LEAST_NORMAL: i64 = 20_000;
+
+/// The flags of a footing: uncertainties minimised, strict tolerances, and full contact with ground that won't be dug away.
+const MINIMISED: u8 = 1;
+const STRICT: u8 = 2;
+const CONTACT: u8 = 4;
 
 /// What a soil resists with: the tangent times 10,000, or the undrained strength in Pa.
 #[derive(Clone, Copy)]
@@ -122,11 +127,25 @@ impl Footing {
         let eccentricity =
             |moment| (1000 * a.size_up(moment, sign) as u64).div_ceil(n as u64) as i64;
         let (ex, ey) = (eccentricity(self.x), eccentricity(self.y));
-        let r = self.base_resistance(held.soil.resistance, n, ex, ey) + 2 * self.p / 5;
-        let excepted = self.flags == 3 && q > 100 && a.below_cap;
+        let base = self.base_resistance(held.soil.resistance, n, ex, ey);
+        let r = base + 2 * self.counted_thrust() / 5;
+        let excepted = self.has(MINIMISED) && self.has(STRICT) && q > 100 && a.below_cap;
         let verdict = i64::from(self.overturns(held.soil.sensitive, excepted, ex, ey)) << 2
             | i64::from(h > r) << 3;
         [n, ex, ey, h, r, verdict]
+    }
+
+    fn has(&self, flag: u8) -> bool {
+        self.flags & flag != 0
+    }
+
+    /// The passive thrust counts only where the contact is declared (02, No. 6).
+    fn counted_thrust(&self) -> i64 {
+        if self.has(CONTACT) {
+            self.p
+        } else {
+            0
+        }
     }
 
     fn base_resistance(&self, resistance: Resistance, n: i64, ex: i64, ey: i64) -> i64 {
@@ -176,6 +195,6 @@ impl Operands for Footing {
             && test("HE", size(self.h.1))
             && test("U", within(self.u as u64))
             && test("P", within(self.p as u64))
-            && test("flags", self.flags <= 3)
+            && test("flags", self.flags <= MINIMISED | STRICT | CONTACT)
     }
 }

@@ -1,5 +1,5 @@
 //! Tries the calls where a listing does not show them: short and long slices, the operand at fault, totals, take-down, writing,
-//! printing. And where q governs, at equality and on both sides of it.
+//! printing. Where q governs, at equality and on both sides of it; and footings with each of their flags.
 
 use super::members::Coefficient;
 use super::{at_fault, commands, layout, read_command, write_command, Command, Written};
@@ -236,6 +236,66 @@ fn other_rows_keep_their_words() {
     assert_eq!(words[16..], [71, 5, 140, -140, 0, 0, 0, 1]);
 }
 
+// Footings with their flags (02, No. 6); q is 350.
+
+/// Words 2 to 7 of the two rows of a footing on a granular soil with t 5000 that is not sensitive.
+fn footing(set: &[(usize, u32)]) -> [[i64; 6]; 2] {
+    let soil = command(8, &[(1, 0.5f32.to_bits())]);
+    let job = [&JOB[..7], &soil, &command(9, set), &[0]].concat();
+    let mut words = [0; 16];
+    assert_eq!(run(&job, &mut words), Ok(2));
+    [0, 8].map(|row| {
+        assert_eq!(words[row..row + 2], [14, 9]);
+        words[row + 2..row + 8].try_into().expect("six words")
+    })
+}
+
+/// 01's footing with these flags and this HV in place of 20,000: H of the first row is 144,000 more.
+fn figures(flags: u32, hv: u32) -> [[i64; 6]; 2] {
+    let sides_and_element = [(0, 2000), (1, 3000), (2, 400_000), (3, 200_000)];
+    let loads = [(4, 1_000_000), (5, 100_000), (6, 50_000), (7, 20_000)];
+    let last = [(10, hv), (11, 60_000), (13, 100_000), (14, flags)];
+    footing(&[sides_and_element, loads, last].concat())
+}
+
+#[test]
+fn the_thrust_counts_with_the_contact_alone() {
+    for flags in 0..8 {
+        let passive = if flags >= 4 { 40_000 } else { 0 };
+        let [plus, minus] = [620_000, 380_000].map(|base| base + passive);
+        let expected = [
+            [1_240_000, 80, 0, 164_000, plus, 0],
+            [760_000, 3, 0, 124_000, minus, 0],
+        ];
+        assert_eq!(figures(flags, 20_000), expected);
+    }
+}
+
+#[test]
+fn bit_8_counts_from_the_thrust_that_counts() {
+    let verdict = |flags, h: u32| figures(flags, h - 144_000)[0][5];
+    assert_eq!([620_000, 620_001].map(|h| verdict(3, h)), [0, 8]);
+    assert_eq!(
+        [620_001, 660_000, 660_001].map(|h| verdict(4, h)),
+        [0, 0, 8]
+    );
+}
+
+/// ex is 1,200 with sides of 3,000, and a is 1.20.
+#[test]
+fn the_exception_asks_for_bits_0_and_1_whatever_bit_2_is() {
+    let sides_and_element = [(0, 3000), (1, 3000), (2, 1), (3, 1)];
+    for flags in 0..8 {
+        let set = [(4, 1_000_000), (6, 1_200_000), (14, flags)];
+        let verdict = if flags % 4 == 3 { 0 } else { 4 };
+        let expected = [1_000_000, 1200, 0, 0, 500_000, verdict];
+        assert_eq!(
+            footing(&[&sides_and_element[..], &set].concat()),
+            [expected; 2]
+        );
+    }
+}
+
 // The operand at fault.
 
 /// The widths of each command's operands, from 01 to 0A.
@@ -355,12 +415,21 @@ fn an_id_is_never_named() {
 
 #[test]
 fn the_first_operand_out_of_range_is_named() {
-    assert_eq!(operand(9, &[(14, 4), (11, 1 << 31)]), 11);
-    assert_eq!(operand(9, &[(14, 4), (0, 20_001), (1, 499)]), 0);
+    assert_eq!(operand(9, &[(14, 8), (11, 1 << 31)]), 11);
+    assert_eq!(operand(9, &[(14, 8), (0, 20_001), (1, 499)]), 0);
     assert_eq!(operand(10, &[(3, 999), (4, 2)]), 3);
     assert_eq!(operand(6, &[(1, 99), (5, 100_000_001)]), 1);
     let faults = [command(3, &[(6, u32::MAX)]), command(4, &[(0, 0)])];
     assert_eq!(fault_of(&faults).operand, 6);
+}
+
+#[test]
+fn flags_run_from_0_to_7() {
+    let [soil, footing] = [command(8, &[]), command(9, &[(14, 7)])];
+    assert_eq!(fault_of(&[soil, footing]), Fault::default());
+    for flags in 8..256 {
+        assert_eq!(operand(9, &[(14, flags)]), 14);
+    }
 }
 
 #[test]

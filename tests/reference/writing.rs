@@ -52,7 +52,7 @@ pub fn layout(code: u8) -> Vec<Operand> {
         FOOTING => [
             vec![SIDE, SIDE, AMOUNT, AMOUNT],
             vec![SIGNED; 8],
-            vec![AMOUNT, AMOUNT, (1, 0, 3)],
+            vec![AMOUNT, AMOUNT, (1, 0, 7)],
         ]
         .concat(),
         DETAIL => vec![(1, 0, 2), DEPTH, DEPTH, (2, 1000, 2000), YES_NO],

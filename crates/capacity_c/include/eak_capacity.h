@@ -40,15 +40,18 @@
 extern "C" {
 #endif
 
-/* The version that this header belongs to, 2.0.0: 10,000 times the major number, 100 times the minor one, and the patch. With the major
+/* The version that this header belongs to, 3.0.0: 10,000 times the major number, 100 times the minor one, and the patch. With the major
  * number a call is changed or removed, or words of the rows of accepted jobs change; with the minor one a call is added, or jobs are
  * accepted that were refused. eak_version answers the library's. */
-#define EAK_VERSION 20000
+#define EAK_VERSION 30000
 
 /* The words of a row. Word 0 is the command's offset in the job, word 1 its byte, word 7 the verdict, 0 for passed; docs/FORMAT.md has
  * the others. From version 2.0.0 on, rows tell where the cap q holds the design shear: word 6 of a column and of a wall base, word 5
  * (plus) and word 6 (minus) of a beam are 1 where the cap is strictly the smaller, or the ME of a wall base is 0, else 0. Before, these
- * words were 0. A 1 says that no greater resistance changes that shear; a 0 says that the shear is that of the resistances. */
+ * words were 0. A 1 says that no greater resistance changes that shear; a 0 says that the shear is that of the resistances.
+ * From version 3.0.0 on, the passive thrust P of a footing counts only where bit 2 of its flags (value 4) declares full contact with
+ * undisturbed or compacted ground. A job written before, whose flags are 0 to 3, loses two fifths of P in word 6 of its footing rows,
+ * and may get bit 8 by it, until its author adds 4 to the flags: docs/FORMAT.md, "What changed for authors of old files". */
 #define EAK_ROW_WORDS 8
 
 /* No job has more rows: 4,096 commands at most, of which the settings and a soil write none and 4,094 footings write two each. A
@@ -208,8 +211,9 @@ struct eak_footing {
     int32_t hv;     /* horizontal force, V, N, -100,000,000 to 100,000,000 */
     int32_t he;     /* horizontal force, E, N, -100,000,000 to 100,000,000 */
     uint32_t u;     /* uplift, N, 0 to 100,000,000 */
-    uint32_t p;     /* full passive thrust, N, 0 to 100,000,000 */
-    uint32_t flags; /* 0 to 3: 1 for uncertainties minimised, plus 2 for strict tolerances */
+    uint32_t p;     /* full passive thrust, N, 0 to 100,000,000; two fifths of it count where the contact is declared */
+    uint32_t flags; /* 0 to 7: 1 for uncertainties minimised, plus 2 for strict tolerances, plus 4 for full contact with undisturbed or
+                     * compacted ground */
 };
 
 /* 0A detail */

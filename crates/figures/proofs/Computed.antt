@@ -57,8 +57,10 @@ figures =
       tangentAbove = tangent-above-2;
       tangentNegative = tangent-minus-0;
       tangentHalf = tangent-0-5;
-      footingPlus = λ x flags sensitive t. ((refl, refl), (refl, rw t));
-      footingMinus = λ x flags sensitive t. ((refl, refl), (refl, rw t));
+      footingPlus = λ x sensitive t. ((refl, refl), (refl, rw t));
+      footingMinus = λ x sensitive t. ((refl, refl), (refl, rw t));
+      noContactPlus = λ x sensitive t. ((refl, refl), (refl, rw t));
+      noContactMinus = λ x sensitive t. ((refl, refl), (refl, rw t));
       detailPasses = λ place lap. bit-32-clear (eqb place 2 && eqb lap 1);
       detailFails = λ place lap h. bit-32-set (eqb place 2 && eqb lap 1) h;
     }

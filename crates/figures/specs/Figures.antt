@@ -44,6 +44,11 @@ Storeys J0 k shear =
     (length thickness VRbase J ME VR MS : ℕ) → 1 ≤ J →
     StoreyIs (storeyRow q (wall 2000000 length thickness VRbase) (storey J (J0 J) ME VR MS)) k shear
 
+-- the row of the footing with these flags, on any soil with t 5000, in the direction with sign − where `minus`
+abbrev pub FootingRows : (flags : ℕ) → (minus : Bool) → (n ex h r : ℕ) → Type 0
+FootingRows flags minus n ex h r =
+    (x : Float) (sensitive : Bool) → tangentOf x ≡ 5000 → FootingIs (footingRow settings (footing flags) (Granular x) sensitive minus) n ex h r
+
 pub record Figures : Type 0 where
   -- Column 3000, R 200000, 200000, 180000, 210000, VE 80000: 186,667
   pub columnShear : (VR : ℕ) → columnRow q (column VR) .word2 ≡ pos 186667
@@ -72,11 +77,13 @@ pub record Figures : Type 0 where
   pub tangentNegative : takeDown 0 (ofBits binary32 0x8000_0000) ≡ refused
   -- there is a soil with t 5000: the tangent 0.5
   pub tangentHalf : takeDown 0 (ofBits binary32 0x3F00_0000) ≡ accepted 5000
-  -- Footing 2000 by 3000 on granular soil with t 5000: N 1,240,000, ex 80, H 164,000, R 660,000; then 760,000, 3, 124,000, 420,000
-  pub footingPlus : (x : Float) (flags : ℕ) (sensitive : Bool) → tangentOf x ≡ 5000 →
-      FootingIs (footingRow settings (footing flags) (Granular x) sensitive false) 1240000 80 164000 660000
-  pub footingMinus : (x : Float) (flags : ℕ) (sensitive : Bool) → tangentOf x ≡ 5000 →
-      FootingIs (footingRow settings (footing flags) (Granular x) sensitive true) 760000 3 124000 420000
+  -- Footing 2000 by 3000 on granular soil with t 5000: N 1,240,000, ex 80, H 164,000, R 660,000; then 760,000, 3, 124,000, 420,000.
+  -- 02, No. 6: "The footing figures are read with flags 4"
+  pub footingPlus : FootingRows 4 false 1240000 80 164000 660000
+  pub footingMinus : FootingRows 4 true 760000 3 124000 420000
+  -- with flags 0 the thrust of 100,000 N adds nothing: R is 40,000 N less in both
+  pub noContactPlus : FootingRows 0 false 1240000 80 164000 620000
+  pub noContactMinus : FootingRows 0 true 760000 3 124000 380000
   -- xy 250, mu 1000: xu 131 passes, 132 does not
   pub detailPasses : (place lap : ℕ) → BitClear 32 (detailRow (detail 131 place lap) .verdict)
   pub detailFails : (place lap : ℕ) → BitClear 32 (detailRow (detail 132 place lap) .verdict) → ⊥

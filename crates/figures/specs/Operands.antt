@@ -51,7 +51,7 @@ wall ME length thickness VR =
 abbrev pub storey : (J J0 ME VR MS : ℕ) → Storey
 storey J J0 ME VR MS = record { moment = ME; shear = 100000; inertia = J; baseInertia = J0; strength = VR; resistance = MS }
 
--- the flags are open
+-- with these flags
 abbrev pub footing : ℕ → Footing
 footing flags =
     record {

@@ -5,7 +5,7 @@ use mathlib.Core.Bool.{Bool, true, false}
 use mathlib.Core.Logic.{inl}
 use Prim.Native.Nat.{ℕ, _+_, _-_, _*_, _≤_, _<_}
 use native.Mathlib.Omega.{arith}
-use lib.Dec.{T, ltb}
+use lib.Dec.{ltb}
 use lib.IntN.{ℤ, pos, natAbs}
 use lib.Signed.{leZ, _≤ℤ_}
 use Rattle.exact.specs.Fraction.{Fraction, Proper, whole, ratio, upF, _≤F_, _<F_, _+F_}
@@ -23,13 +23,14 @@ use Rattle.claims.proofs.Checks.{check-holds}
 use Rattle.claims.proofs.Bits.{not-below-ℕ}
 use Rattle.claims.proofs.Rounded.{up-not-below, up-excess}
 use Rattle.footing.specs.declared.Footing.{Footing}
+use Rattle.footing.specs.Flags.{countedThrust}
 use Rattle.footing.specs.Actions.{footingCoefficient, action, normal, momentB, momentL, horizontal}
 use Rattle.footing.specs.Rows.{FootingRange, footingRow, eccentricity, effectiveArea, baseResistance, slidingResistance, exception, eccentric}
 use Rattle.footing.specs.Claimed.{exactNormal, exactEx, exactEy, exactArea, exactBase, eccentricityDemand, sideOver, eccentricityCheck, slidingAmount, slidingStrength, footingClaims}
 use Rattle.footing.proofs.Directions.{Force, proper, heavy}
 use Rattle.footing.proofs.Eccentricity.{Reported, eccentricities}
 use Rattle.footing.proofs.Sliding.{Base, Area, areas, granular, cohesive, enough, sliding}
-use Rattle.footing.proofs.Rows.{heavyOf, heavy-is, light-is}
+use Rattle.footing.proofs.Rows.{heavyOf, heavy-is, is-heavy}
 use Rattle.footing.proofs.Sides.{bit-4, clear-4, three-hold}
 
 -- ---- the check of one side
@@ -111,7 +112,7 @@ module _ (s : Settings) (f : Footing) (minus : Bool) (r : FootingRange s f) (h :
   amount-proper (Cohesive x) = omega arith
 
   sliding-strength : (soil : Soil) → StrengthHolds (slidingStrength s f soil minus (pos (slidingResistance f soil ex ey (forceOf s f minus))))
-  sliding-strength soil = sliding (base soil) (f .passive) (exactBase s f soil minus) (slidingAmount f soil) (amount-proper soil) (base-strength soil)
+  sliding-strength soil = sliding (base soil) (countedThrust f) (exactBase s f soil minus) (slidingAmount f soil) (amount-proper soil) (base-strength soil)
 
   abbrev sliding-check : Soil → Check
   sliding-check soil =
@@ -147,12 +148,6 @@ module _ (s : Settings) (f : Footing) (minus : Bool) (r : FootingRange s f) (h :
 pub footing-holds : (s : Settings) (f : Footing) (soil : Soil) (sensitive minus : Bool) → FootingRange s f →
     pos 20000 ≤ℤ footingRow s f soil sensitive minus .word2 →
     Hold (footingClaims s f soil sensitive minus (footingRow s f soil sensitive minus))
-footing-holds s f soil sensitive minus r h = by (leZ (pos 20000) (downS (normal s f minus))) refl
-  where
-    by : (t : Bool) → leZ (pos 20000) (downS (normal s f minus)) ≡ t → Hold (footingClaims s f soil sensitive minus (footingRow s f soil sensitive minus))
-    by true e =
-        subst (λ (row : Row). Hold (footingClaims s f soil sensitive minus row)) (sym (heavy-is s f soil sensitive minus e)) (heavy-holds s f minus r e soil sensitive)
-    by false e =
-        let k : T (leZ (pos 20000) (downS (normal s f minus))) =
-        subst (λ (row : Row). T (leZ (pos 20000) (row .word2))) (light-is s f soil sensitive minus e) (h .le) in
-        absurd (subst T e k)
+footing-holds s f soil sensitive minus r h =
+    let e = is-heavy s f soil sensitive minus h in
+    subst (λ (row : Row). Hold (footingClaims s f soil sensitive minus row)) (sym (heavy-is s f soil sensitive minus e)) (heavy-holds s f minus r e soil sensitive)

@@ -1,9 +1,10 @@
 -- The two forms of a footing row, by its N. Assumes nothing.
-use mathlib.Core.Path.{_≡_, sym}
+use mathlib.Core.Path.{_≡_, refl, sym, subst}
 use Prim.Native.Nat.{ℕ}
 use mathlib.Core.Bool.{Bool, true, false}
 use lib.IntN.{ℤ, pos, natAbs}
-use lib.Signed.{leZ}
+use lib.Dec.{T}
+use lib.Signed.{leZ, _≤ℤ_}
 use Rattle.exact.specs.Fraction.{upF}
 use Rattle.exact.specs.SignedFraction.{size, downS}
 use Rattle.soil.specs.declared.Soil.{Soil}
@@ -28,6 +29,14 @@ module _ (s : Settings) (f : Footing) (soil : Soil) (sensitive minus : Bool) whe
   pub light-is : leZ (pos 20000) (downS (normal s f minus)) ≡ false → footingRow s f soil sensitive minus ≡ lightRow (downS (normal s f minus)) (upF (size (horizontal s f minus)))
   unfolding footingRow
   light-is h = rw h
+
+  -- a row whose reported N is at least 20,000 is of the first form
+  pub is-heavy : pos 20000 ≤ℤ footingRow s f soil sensitive minus .word2 → leZ (pos 20000) (downS (normal s f minus)) ≡ true
+  is-heavy h = by (leZ (pos 20000) (downS (normal s f minus))) refl
+    where
+      by : (t : Bool) → leZ (pos 20000) (downS (normal s f minus)) ≡ t → t ≡ true
+      by true e = refl
+      by false e = absurd (subst T e (subst (λ (row : Row). T (leZ (pos 20000) (row .word2))) (light-is e) (h .le)))
 
   -- the row of computed values
   pub heavy-path : (n : ℤ) (ex ey h : ℕ) → leZ (pos 20000) n ≡ true → n ≡ downS (normal s f minus) →

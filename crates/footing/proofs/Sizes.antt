@@ -1,14 +1,13 @@
 -- How large the words of a footing row are, for all operands in range and both directions. Assumes nothing.
 use mathlib.Core.Path.{_≡_, refl, sym, subst}
 use mathlib.Core.Bool.{Bool, true, false}
-use Prim.Native.Nat.{_*_, _≤_}
+use Prim.Native.Nat.{_≤_}
 use native.Mathlib.Omega.{arith}
 use lib.Dec.{ltb}
 use lib.IntN.{ℤ, pos, natAbs}
 use lib.Signed.{leZ}
 use Rattle.exact.specs.Fraction.{upF}
 use Rattle.exact.specs.SignedFraction.{size, downS}
-use Rattle.exact.proofs.Rounding.{down-le}
 use Rattle.soil.specs.declared.Soil.{Soil}
 use Rattle.coefficient.specs.declared.Settings.{Settings}
 use Rattle.coefficient.specs.declared.Quotient.{Quotient}
@@ -17,10 +16,10 @@ use Rattle.claims.proofs.Bits.{flag-le}
 use Rattle.claims.proofs.Sizes.{sized}
 use Rattle.footing.specs.declared.Footing.{Footing}
 use Rattle.footing.specs.Actions.{footingCoefficient, normal, momentB, momentL, horizontal}
-use Rattle.footing.specs.Rows.{eccentricity, effectiveArea, slidingResistance, eccentric, lightRow, footingRow, FootingRange}
+use Rattle.footing.specs.Rows.{eccentricity, slidingResistance, eccentric, lightRow, footingRow, FootingRange}
 use Rattle.footing.specs.Ranges.{ActionRange}
 use Rattle.footing.proofs.Directions.{capped-coefficient, proper, size-le, heavy, normal-le, eccentricity-le}
-use Rattle.footing.proofs.Sliding.{base-le}
+use Rattle.footing.proofs.Sliding.{resistance-le}
 use Rattle.footing.proofs.Rows.{heavyOf, heavy-is, light-is}
 
 module _ (s : Settings) (f : Footing) (minus : Bool) (r : FootingRange s f) where
@@ -64,7 +63,7 @@ module _ (s : Settings) (f : Footing) (minus : Bool) (r : FootingRange s f) wher
       let R = slidingResistance f soil ex ey n in
       sized (pos n) (pos ex) (pos ey) (pos h) (pos R) _
       (omega (arith, force-le)) (omega (arith, eccentricity-le _ n least moment-b-le)) (omega (arith, eccentricity-le _ n least moment-l-le)) (omega (arith, horizontal-le))
-      (omega (arith, base-le soil (effectiveArea f ex ey) n (f .uplift) force-le, down-le (2 * f .passive) 5, r .passive))
+      (omega (arith, resistance-le f soil ex ey n force-le (r .passive)))
       (omega (arith, flag-le 4 (eccentric (s .behaviour) f (footingCoefficient s f) sensitive ex ey), flag-le 8 (ltb R h)))
 
   pub footing-sized : (soil : Soil) (sensitive : Bool) → Sized (footingRow s f soil sensitive minus)

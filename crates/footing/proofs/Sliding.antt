@@ -18,11 +18,14 @@ use Rattle.soil.proofs.Laws.{tangent-le}
 use Rattle.claims.specs.Claims.{StrengthHolds}
 use Rattle.claims.proofs.Orders.{≤-or, pos-mul}
 use Rattle.coefficient.proofs.Bounds.{smaller-either, smaller-≤-first, smaller-≤-second}
-use Rattle.footing.specs.Rows.{baseResistance}
+use Rattle.footing.specs.declared.Footing.{Footing}
+use Rattle.footing.specs.Flags.{countedThrust}
+use Rattle.footing.specs.Rows.{baseResistance, effectiveArea, slidingResistance}
+use Rattle.footing.proofs.Flags.{thrust-le}
 use Rattle.footing.proofs.Directions.{Force}
 use Rattle.footing.proofs.Eccentricity.{Reported}
 
--- ---- the bound of the base resistance
+-- ---- the bounds of the base resistance and of R
 
 pub base-le : (soil : Soil) (area n uplift : ℕ) → n ≤ 500000000 → baseResistance soil area n uplift ≤ 1000000000
 unfolding baseResistance
@@ -31,6 +34,10 @@ base-le (Granular x) area n uplift h =
     omega (arith, down-le ((n - uplift) * tangentOf x) 10000, mul-le-mul k (tangent-le x))
 base-le (Cohesive x) area n uplift h =
     omega (arith, min-le-right (down (area * cohesionOf x) 1000000) (down (2 * n) 5), down-le (2 * n) 5)
+
+pub resistance-le : (f : Footing) (soil : Soil) (ex ey n : ℕ) → n ≤ 500000000 → f .passive ≤ 100000000 → slidingResistance f soil ex ey n ≤ 1200000000
+resistance-le f soil ex ey n h p =
+    omega (arith, base-le soil (effectiveArea f ex ey) n (f .uplift) h, down-le (2 * countedThrust f) 5, thrust-le f, p)
 
 -- ---- a side less twice the eccentricity, and the effective area
 

@@ -13,6 +13,7 @@ use Rattle.claims.specs.declared.Row.{Row}
 use Rattle.claims.specs.Exact.{value}
 use Rattle.claims.specs.Claims.{Claims, Demand, Strength, Check, plain, check}
 use Rattle.footing.specs.declared.Footing.{Footing}
+use Rattle.footing.specs.Flags.{countedThrust}
 use Rattle.footing.specs.Actions.{footingCoefficient, normal, momentB, momentL, horizontal}
 use Rattle.footing.specs.Rows.{exception}
 
@@ -37,8 +38,9 @@ abbrev pub exactBase : Settings → Footing → Soil → Bool → Fraction
 exactBase s f (Granular x) minus = (exactNormal s f minus ∸F whole (f .uplift)) *F ratio (tangentOf x) 10000
 exactBase s f (Cohesive x) minus = smaller (exactArea s f minus *F ratio (cohesionOf x) 1000000) (exactNormal s f minus *F ratio 2 5)
 
+-- and of P what counts, as in the row
 abbrev pub exactSliding : Settings → Footing → Soil → Bool → Fraction
-exactSliding s f soil minus = exactBase s f soil minus +F ratio (2 * f .passive) 5
+exactSliding s f soil minus = exactBase s f soil minus +F ratio (2 * countedThrust f) 5
 
 -- ---- the checks
 

@@ -1,7 +1,7 @@
 -- The rows of a footing. 01, "Soil and footing" and "Rows and verdict bits".
 use mathlib.Core.Bool.{Bool, _&&_, _||_, not, cond}
 use Prim.Native.Nat.{ℕ, _+_, _-_, _*_, _≤_, min}
-use lib.Dec.{ltb, eqb}
+use lib.Dec.{ltb}
 use lib.IntN.{ℤ, pos, natAbs}
 use lib.Signed.{leZ}
 use Rattle.exact.specs.Quotient.{up, down}
@@ -14,6 +14,7 @@ use Rattle.coefficient.specs.declared.Settings.{Settings}
 use Rattle.claims.specs.declared.Row.{Row}
 use Rattle.claims.specs.Verdict.{flag}
 use Rattle.footing.specs.declared.Footing.{Footing}
+use Rattle.footing.specs.Flags.{bothFlags, countedThrust}
 use Rattle.footing.specs.Actions.{footingCoefficient, normal, momentB, momentL, horizontal}
 
 -- ex = 1000·X/N up, likewise ey
@@ -29,13 +30,13 @@ unfoldable pub baseResistance : Soil → ℕ → ℕ → ℕ → ℕ
 baseResistance (Granular x) area n uplift = down ((n - uplift) * tangentOf x) 10000
 baseResistance (Cohesive x) area n uplift = min (down (area * cohesionOf x) 1000000) (down (2 * n) 5)
 
--- R is that plus 2·P/5 down
+-- R is that plus 2·P/5 down, of the P that counts (02, No. 6)
 abbrev pub slidingResistance : Footing → Soil → ℕ → ℕ → ℕ → ℕ
-slidingResistance f soil ex ey n = baseResistance soil (effectiveArea f ex ey) n (f .uplift) + down (2 * f .passive) 5
+slidingResistance f soil ex ey n = baseResistance soil (effectiveArea f ex ey) n (f .uplift) + down (2 * countedThrust f) 5
 
 -- the exception of bit 4, as far as flags, q and a go: both flags set, q > 100, a < q/100
 abbrev pub exception : ℕ → Footing → Fraction → Bool
-exception q f a = eqb (f .flags) 3 && ltb 100 q && ltb (a .num * 100) (q * a .den)
+exception q f a = bothFlags f && ltb 100 q && ltb (a .num * 100) (q * a .den)
 
 -- n·e exceeds the side, for one of the two
 abbrev pub outside : ℕ → Footing → ℕ → ℕ → Bool
@@ -91,4 +92,4 @@ pub record FootingRange (s : Settings) (f : Footing) : Type 0 where
   pub he : natAbs (f .he) ≤ 100000000
   pub uplift : f .uplift ≤ 100000000
   pub passive : f .passive ≤ 100000000
-  pub flags : f .flags ≤ 3
+  pub flags : f .flags ≤ 7

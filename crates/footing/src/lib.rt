@@ -8,6 +8,7 @@ ghost use lib.IntN.{pos, natAbs, _*ℤ_};
 ghost use Rattle.exact.specs.Fraction.{upF};
 ghost use Rattle.exact.specs.SignedFraction.{size, downS};
 ghost use Rattle.coefficient.specs.Coefficient.{fraction};
+ghost use Rattle.footing.specs.Flags.{countedThrust};
 ghost use Rattle.footing.specs.Actions.{footingCoefficient, action};
 ghost use Rattle.footing.specs.Rows.{FootingRange, footingRow, heavyRow, lightRow, eccentricity, effectiveArea, baseResistance, slidingResistance, exception, outside as outsideOf, eccentric as eccentricOf};
 ghost use Rattle.footing.specs.Ranges.{turned, Capped, ActionRange, RowRange};
@@ -20,7 +21,7 @@ use soil::Soil;
 const LEAST_NORMAL: i64 = 20_000;
 
 // 01's B, L; MR, ME of the element above; normal force, moment along B, moment along L and horizontal force, each non-seismic
-// (v) and seismic (e); U; P; bit 0 of the flags: uncertainties minimised, bit 1: strict tolerances.
+// (v) and seismic (e); U; P; bit 0 of the flags: uncertainties minimised, bit 1: strict tolerances, bit 2: full contact, so that P counts.
 pub struct Footing {
     pub breadth: u32,
     pub length: u32,
@@ -131,13 +132,21 @@ fn base_resistance(soil: Soil, area: u64, n: u64, uplift: u32) -> u64
     }
 }
 
-// R: the base, and two fifths of the passive thrust.
+// P where bit 2 of the flags declares the contact, else 0.
+fn counted_thrust(f: Footing) -> u32
+    ensures { λ r. ⌜ r ≡ countedThrust f ⌝ }
+{
+    if f.flags / 4 % 2 == 1 { f.passive } else { 0 }
+}
+
+// R: the base, and two fifths of the passive thrust that counts.
 fn sliding_resistance(f: Footing, soil: Soil, ex: u64, ey: u64, n: u64) -> u64
     requires { ⌜ f .breadth ≤ 20000 ⌝ ∗ ⌜ f .length ≤ 20000 ⌝ ∗ ⌜ ex ≤ 500000000000 ⌝ ∗ ⌜ ey ≤ 500000000000 ⌝ ∗ ⌜ n ≤ 500000000 ⌝ }
     ensures { λ r. ⌜ r ≡ slidingResistance f soil ex ey n ⌝ }
 {
     let area = effective_area(f, ex, ey);
-    base_resistance(soil, area, n, f.uplift) + 2 * (f.passive as u64) / 5
+    let thrust = counted_thrust(f);
+    base_resistance(soil, area, n, f.uplift) + 2 * (thrust as u64) / 5
 }
 
 // ---- bit 4
@@ -158,12 +167,12 @@ fn inside_halves(f: Footing, ex: u64, ey: u64) -> bool
     2 * ex < (f.breadth as u64) && 2 * ey < (f.length as u64)
 }
 
-// Flags, q and a meet the exception.
+// Flags (bits 0 and 1 both set), q and a meet the exception.
 fn excepted(behaviour: u32, f: Footing, a: Quotient) -> bool
     requires { ⌜ Capped a ⌝ ∗ ⌜ behaviour ≤ 400 ⌝ }
     ensures { λ r. ⌜ r ≡ exception behaviour f (fraction a) ⌝ }
 {
-    if f.flags != 3 {
+    if f.flags % 4 != 3 {
         return false;
     }
     if behaviour <= 100 {

@@ -128,7 +128,7 @@ pub record FootingOperands (f : Footing) : Type 0 where
   pub he : natAbs (f .he) ≤ 100000000
   pub uplift : f .uplift ≤ 100000000
   pub passive : f .passive ≤ 100000000
-  pub flags : f .flags ≤ 3
+  pub flags : f .flags ≤ 7
 
 pub record DetailOperands (d : Detail) : Type 0 where
   pub place : d .place ≤ 2

@@ -286,7 +286,7 @@ pub const GREATEST_KIND: u32 = 1;
 
 pub const YES: u32 = 1;
 
-pub const GREATEST_FLAGS: u32 = 3;
+pub const GREATEST_FLAGS: u32 = 7;
 
 pub const GREATEST_PLACE: u32 = 2;
 

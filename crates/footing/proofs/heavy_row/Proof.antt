@@ -1,12 +1,10 @@
 -- `footing::heavy_row` meets its contract: R is below 2⁶³, and the verdict at most 12. Assumes nothing.
 use mathlib.Core.Path.{_≡_, ap, _∙_}
-use Prim.Native.Nat.{_*_}
 use native.Mathlib.Omega.{arith}
 use Rattle.exact.specs.Fraction.{Fraction}
-use Rattle.exact.proofs.Rounding.{down-le}
 use Rattle.footing.specs.Actions.{footingCoefficient}
-use Rattle.footing.specs.Rows.{eccentric, effectiveArea}
-use Rattle.footing.proofs.Sliding.{base-le}
+use Rattle.footing.specs.Rows.{eccentric}
+use Rattle.footing.proofs.Sliding.{resistance-le}
 use borrow.Author.Needs.{needs}
 use Rattle.footing.proofs.heavy_row.Statement.{statement}
 use Rattle.footing.proofs.heavy_row.Tie as tie
@@ -34,7 +32,7 @@ packed-requires c κs =
           (
             omega (arith, p .horizontal),
             (
-              omega (arith, r .ensures, base-le (a .soil) (effectiveArea (a .f) (a .ex) (a .ey)) (a .n) (a .f .uplift) (p .normal), down-le (2 * a .f .passive) 5, p .operands .passive),
+              omega (arith, r .ensures, resistance-le (a .f) (a .soil) (a .ex) (a .ey) (a .n) (p .normal) (p .operands .passive)),
               omega (arith, c .verdict-of .ensures .1),
             ),
           ),

@@ -13,10 +13,13 @@ effective-area-requires c κs = search needs
 
 base-resistance-requires : tie.Need-base-resistance-requires
 base-resistance-requires c κs =
-    let s = c .before in
+    let s = c .before .before in
     let h : s .args .f .breadth - 2 * s .args .ex ≤ 20000 = omega arith in
     let k : s .args .f .length - 2 * s .args .ey ≤ 20000 = omega arith in
-    omega (arith, c .effective-area .ensures, mul-le-mul h k)
+    omega (arith, c .before .effective-area .ensures, mul-le-mul h k)
+
+counted-thrust-requires : tie.Need-counted-thrust-requires
+counted-thrust-requires c κs = search needs
 
 cast-result : tie.Need-cast-result
 cast-result c = search needs
@@ -29,21 +32,22 @@ add-result c =
     let s = c .before .before .before in
     omega (
       arith,
-      c .struct-known .given,
-      c .before .base-resistance .ensures,
+      c .before .counted-thrust,
+      c .base-resistance .ensures,
       base-le (s .args .soil) (c .before .before .effective-area .result) (s .args .n) (s .args .f .uplift) (s .pre .1 .1 .1 .1),
     )
 
 returns : tie.Need-returns
 unfolding down
 returns c =
-    rw (c .before .base-resistance .ensures, c .before .before .effective-area .ensures)
+    rw (c .base-resistance .ensures, c .before .counted-thrust .ensures, c .before .before .effective-area .ensures)
 
 pub sliding-resistance-spec : {M : Type 1} → statement M
 sliding-resistance-spec =
     tie.close
     (tie.spec
     effective-area-requires
+    counted-thrust-requires
     base-resistance-requires
     cast-result
     mul-result
