@@ -1,7 +1,7 @@
 """Writes the jobs of this folder and of refused/: python3 make.py
 
-Beside each NAME.job it writes NAME.elements: a line for each command, its offset in the file and the element that it is. The
-offset is the first word of a row, so the list names the element of a row and of a refusal.
+Beside each NAME.job it writes NAME.elements: a line for each command and each set of a block, its offset in the file and the element
+that it is. The offset is the first word of a row, so the list names the element of a row and of a refusal.
 A job is a list of commands, each with its element and its operands by name; docs/FORMAT.md explains each name.
 Forces are newtons, moments newton metres, lengths millimetres, q, gj, gf and mu hundredths.
 """
@@ -20,10 +20,9 @@ COMMANDS = {
     "soil":      (0x08, "kind:B value:f sensitive:B"),
     "footing":   (0x09, "B:I L:I MR:I ME:I NV:i NE:i XV:i XE:i YV:i YE:i HV:i HE:i U:I P:I flags:B"),
     "detail":    (0x0A, "place:B xu:H xy:H mu:H lap:B"),
+    "block":     (0x0B, "count:B"),  # then so many sets, each the operands of a storey
 }
 END = b"\x00"
-
-
 
 
 def command(name, element, **operands):
@@ -35,6 +34,12 @@ def command(name, element, **operands):
         data += struct.pack(">" + kind, operands.pop(operand))
     assert not operands, f"{name} has no operand {list(operands)}"
     return element, data
+
+
+def block(element, *storeys):
+    """Storeys in a block: its byte and the count, then a set for each storey, which is its command without the byte."""
+    sets = [(name, data[1:]) for name, data in storeys]
+    return [command("block", element, count=len(sets)), *sets]
 
 
 def write(folder, name, commands):
@@ -105,6 +110,20 @@ def tall(storey):
     return dict(ME=moment(storey), VE=shear(storey), J=J, J0=J0, VR=VR, MS=MS)
 
 
+# A wall of twelve storeys of 3.0 m above its base, 5,000 mm long: the seismic shears in kN from the base up; of every two storeys the
+# thickness, VR and MS.
+SHEARS = (900, 870, 825, 770, 710, 645, 575, 500, 420, 340, 255, 170, 85)
+TWOS = ((300, 1700000, 30000000), (300, 1500000, 25000000), (250, 1250000, 17000000), (250, 1000000, 10000000),
+        (200, 650000, 9000000), (200, 450000, 8500000))
+
+
+def medium(storey):
+    """The operands of a storey, ME from the shears above as in the taller wall."""
+    thickness, VR, MS = TWOS[(storey - 1) // 2]
+    J, J0 = (side * 5000 ** 3 // 120000 for side in (thickness, 300))
+    return dict(ME=3000 * sum(SHEARS[storey:]), VE=1000 * SHEARS[storey], J=J, J0=J0, VR=VR, MS=MS)
+
+
 STRENGTHS = "R1plus R2plus R1minus R2minus"
 TANGENT_35, RADIANS_35 = 0.70020754, 0.61086524
 
@@ -163,6 +182,14 @@ JOBS = {
         command("wall_base", "wall W2, base", length=7500, thickness=500, MR=24000000, ME=1065600, VE=130000, VR=800000),
         command("storey", "wall W2, storey 1, like storey 39 of W1", **tall(39)),
         command("storey", "wall W2, storey 2", **tall(40) | dict(VR=400000)),
+    ],
+    # A wall of twelve storeys in one block; then the detail of its base.
+    "block": [
+        SETTINGS,
+        command("wall_base", "wall W1, base", length=5000, thickness=300, MR=30000000, ME=3000 * sum(SHEARS), VE=900000, VR=1800000),
+        *block("wall W1, block of storeys 1 to 12",
+               *(command("storey", f"wall W1, storey {storey}", **medium(storey)) for storey in range(1, 13))),
+        command("detail", "wall W1, base section", place=WALL_BASE, xu=131, xy=250, mu=1000, lap=0),
     ],
     # Footings on a granular soil, on a cohesive sensitive one, and a light one.
     "footings": [
@@ -278,6 +305,15 @@ REFUSED = {
         SETTINGS,
         command("wall_base", "wall W1, base", length=4000, thickness=250, MR=8500000, ME=4200000, VE=1100000, VR=3200000),
         command("storey", "wall W1, storey 1", ME=3100000, VE=1020000, J=133333334, J0=133333333, VR=3000000, MS=8500000),
+    ],
+    # The same in the third set of a block.
+    "block-inertia": [
+        SETTINGS,
+        command("wall_base", "wall W1, base", length=4000, thickness=250, MR=8500000, ME=4200000, VE=1100000, VR=3200000),
+        *block("wall W1, block of storeys 1 to 3",
+               command("storey", "wall W1, storey 1", ME=3100000, VE=1020000, J=133333333, J0=133333333, VR=3000000, MS=8500000),
+               command("storey", "wall W1, storey 2", ME=2100000, VE=880000, J=133333333, J0=133333333, VR=2500000, MS=6500000),
+               command("storey", "wall W1, storey 3", ME=1300000, VE=680000, J=133333334, J0=133333333, VR=2000000, MS=4000000)),
     ],
     # The friction angle in degrees for its tangent.
     "degrees": [SETTINGS, command("soil", "granular soil, 35 degrees", kind=GRANULAR, value=35.0, sensitive=0)],

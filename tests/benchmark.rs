@@ -1,7 +1,7 @@
 //! Times the proved library against the reference, both built for release, on the same jobs in one process with warm buffers; in
 //! writing commands and printing pages against plain Rust (tests/plain.rs), on the same values, each command behind the last.
 //! Arguments: rounds, of which the best counts; one call, where not all are wanted (run, size, fault, total, take-down, write, page), or
-//! walls: run for a wall of forty storeys beside forty walls of one.
+//! walls: run for a wall of forty storeys beside forty walls of one; or blocks: storeys in blocks beside storeys singly.
 //! Prints tables in markdown: ns a command (a row, a value, a job) of both, and the ratio.
 //! Assumes nothing. After `rt staticlib capacity_c`, built at the root of the repository by
 //! rustc --edition 2021 -O -L target/staticlib -o target/tests/benchmark tests/benchmark.rs.
@@ -13,7 +13,7 @@ mod library;
 mod plain;
 mod reference;
 
-use generate::{Mix, Random};
+use generate::{Mix, Random, BLOCK, MOST_SETS};
 use library::write as commands;
 use library::write::WriteAnswer;
 use plain::Plain;
@@ -23,13 +23,13 @@ use std::time::Instant;
 const COMMANDS: [usize; 4] = [10, 100, 1000, 4096];
 
 const KINDS: [(&str, Mix); 8] = [
-    ("column", Mix([0, 1, 0, 0, 0, 0, 0, 0, 0])),
-    ("beam", Mix([0, 0, 1, 0, 0, 0, 0, 0, 0])),
-    ("no hinges", Mix([1, 0, 0, 9, 0, 0, 0, 0, 0])),
-    ("wall base", Mix([0, 0, 0, 0, 1, 0, 0, 0, 0])),
-    ("storey", Mix([0, 0, 0, 0, 0, 1, 0, 0, 0])),
-    ("footing", Mix([0, 0, 0, 0, 0, 0, 0, 1, 0])),
-    ("detail", Mix([0, 0, 0, 0, 0, 0, 0, 0, 1])),
+    ("column", Mix([0, 1, 0, 0, 0, 0, 0, 0, 0, 0])),
+    ("beam", Mix([0, 0, 1, 0, 0, 0, 0, 0, 0, 0])),
+    ("no hinges", Mix([1, 0, 0, 9, 0, 0, 0, 0, 0, 0])),
+    ("wall base", Mix([0, 0, 0, 0, 1, 0, 0, 0, 0, 0])),
+    ("storey", Mix([0, 0, 0, 0, 0, 1, 0, 0, 0, 0])),
+    ("footing", Mix([0, 0, 0, 0, 0, 0, 0, 1, 0, 0])),
+    ("detail", Mix([0, 0, 0, 0, 0, 0, 0, 0, 1, 0])),
     ("even mix", Mix::EVEN),
 ];
 
@@ -45,6 +45,15 @@ const CALLS: [(&str, &str, Both); 4] = [
 const TOWER: &[u8] = include_bytes!("../examples/tower.job");
 const STOREYS: usize = 40;
 const TIMES: usize = 50;
+
+/// The storeys of a wall that stand singly or in blocks, and how many of them a block has; 0 for a storey by itself.
+const IN_BLOCKS: usize = 63 * MOST_SETS;
+const GROUPS: [(&str, usize); 4] = [
+    ("storey singly", 0),
+    ("block of 1", 1),
+    ("block of 8", 8),
+    ("block of 64", MOST_SETS),
+];
 
 /// The rows of a page, and the most.
 const PAGES: [usize; 4] = [10, 100, 1024, 4096];
@@ -84,10 +93,12 @@ fn main() {
     let wanted = |call: &str| picked.as_deref().is_none_or(|name| name == call);
     let calls = CALLS.iter().map(|(call, ..)| *call);
     if !calls
-        .chain(["take-down", "write", "page", "walls"])
+        .chain(["take-down", "write", "page", "walls", "blocks"])
         .any(wanted)
     {
-        eprintln!("the calls are run, size, fault, total, take-down, write, page; or walls");
+        eprintln!(
+            "the calls are run, size, fault, total, take-down, write, page; or walls, blocks"
+        );
         std::process::exit(2);
     }
     for (call, unit, both) in CALLS.into_iter().filter(|(call, ..)| wanted(call)) {
@@ -110,6 +121,8 @@ fn main() {
         for (kind, code, both) in WRITES {
             print(kind, &WRITTEN.to_string(), both(rounds, code));
         }
+        let sets = (WRITTEN / MOST_SETS * MOST_SETS).to_string();
+        print("set of a block of 64", &sets, write_blocks(rounds));
     }
     if wanted("page") {
         println!(
@@ -125,6 +138,18 @@ fn main() {
         println!("\n| walls, ns | walls of storeys | library | reference | ratio |\n|---|---:|---:|---:|---:|");
         for (timed, shape, ns) in walls(rounds) {
             print(timed, shape, ns);
+        }
+    }
+    if wanted("blocks") {
+        println!("\n| blocks, ns a storey | storeys | library | reference | ratio |\n|---|---:|---:|---:|---:|");
+        for (call, _, both) in &CALLS[..3] {
+            for (name, count) in GROUPS {
+                print(
+                    &format!("{call}, {name}"),
+                    &IN_BLOCKS.to_string(),
+                    both(rounds, &in_blocks(count)),
+                );
+            }
         }
     }
 }
@@ -220,6 +245,22 @@ fn walls(rounds: usize) -> [(&'static str, &'static str, [f64; 2]); 6] {
     ]
 }
 
+/// A job of one wall with its storeys in blocks of so many, by storeys.
+fn in_blocks(count: usize) -> Jobs {
+    let mut commands = generate::split(&generate::walls(&mut Random::new(1), &[IN_BLOCKS]));
+    if count > 0 {
+        let blocks: Vec<Vec<u8>> = commands[2..][..IN_BLOCKS]
+            .chunks(count)
+            .map(|storeys| {
+                let sets = storeys.iter().flat_map(|storey| &storey[1..]);
+                [BLOCK, count as u8].iter().chain(sets).copied().collect()
+            })
+            .collect();
+        commands.splice(2..2 + IN_BLOCKS, blocks);
+    }
+    Jobs::by(IN_BLOCKS, vec![commands.concat()])
+}
+
 /// The further time of the first of two, by units.
 fn apart(more: [f64; 2], less: [f64; 2], units: usize) -> [f64; 2] {
     [0, 1].map(|side| (more[side] - less[side]) / units as f64)
@@ -308,6 +349,38 @@ fn write<C: Plain>(rounds: usize, code: u8) -> [f64; 2] {
         WRITTEN,
         || one_after_the_other(&values, &mut bytes, C::write),
         || one_after_the_other(&values, &mut other, C::write_plainly),
+    );
+    assert_eq!(bytes, other, "the bytes of the two writers");
+    ns
+}
+
+/// Of blocks of 64 storeys in range, by sets.
+fn write_blocks(rounds: usize) -> [f64; 2] {
+    let mut random = Random::new(1);
+    let storeys = std::iter::repeat_with(|| generate::command(&mut random, 7))
+        .filter(|command| command.at_fault().is_none())
+        .take(WRITTEN / MOST_SETS * MOST_SETS);
+    let words: Vec<u32> = storeys
+        .flat_map(|storey| storey.values)
+        .map(|value| value as u32)
+        .collect();
+    let blocks: Vec<&[u32]> = words.chunks(6 * MOST_SETS).collect();
+    let mut bytes = vec![0; 58 * WRITTEN];
+    let mut other = bytes.clone();
+    let count = MOST_SETS as u32;
+    let ns = race(
+        rounds,
+        words.len() / 6,
+        || {
+            one_after_the_other(&blocks, &mut bytes, |sets, room| {
+                commands::block(count, sets, room)
+            })
+        },
+        || {
+            one_after_the_other(&blocks, &mut other, |sets, room| {
+                plain::block(count, sets, room)
+            })
+        },
     );
     assert_eq!(bytes, other, "the bytes of the two writers");
     ns

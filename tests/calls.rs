@@ -11,7 +11,9 @@ mod reference;
 use reference::{Command, Printed, Written};
 
 /// Cases of later requests have a higher level.
-const LEVEL: u32 = 6;
+const LEVEL: u32 = 7;
+
+const BLOCK: u8 = 11;
 
 /// What the bytes lent hold before the call; those after what was written must keep it.
 const AS_LENT: u8 = 0xA5;
@@ -65,16 +67,19 @@ fn parts(line: &str) -> Vec<Vec<&str>> {
         .collect()
 }
 
-/// LEVEL COMMAND(hex) ROOM | values | NUMBER BYTES(hex or -)
+/// LEVEL COMMAND(hex) ROOM | values | NUMBER BYTES(hex or -); the values of a block are those of its sets, without the count
 fn write(line: &str) -> Result<(), String> {
     let parts = parts(line);
     let [first, values, last] = &parts[..] else {
         return Err("three parts are wanted".to_string());
     };
-    let command = Command {
+    let mut command = Command {
         code: u8::from_str_radix(first[1], 16).expect("a command's byte"),
         values: values.iter().map(|text| number(text)).collect(),
     };
+    if command.code == BLOCK {
+        command.values.insert(0, values.len() as i64 / 6);
+    }
     let mut expected = hexadecimal(last[1]);
     let answer = Written {
         number: number(last[0]) as u32,

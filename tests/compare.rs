@@ -11,16 +11,17 @@ mod library;
 mod reference;
 mod rounds;
 mod shears;
+mod storeys;
 
-use generate::{Mix, Random};
+use generate::{Mix, Random, BLOCK, MOST_COMMANDS};
 use reference::{Fault, Refusal, ROW};
 use rounds::{hexadecimal, Met, MANY};
 
 /// Words before and after the rows that a call is lent.
 const GUARD: usize = 16;
 
-/// The number of operands of each command, from 00 to 0A.
-const OPERANDS: [usize; 11] = [0, 3, 4, 7, 8, 7, 6, 6, 3, 15, 5];
+/// The number of operands of each command, from 00 to 0B; a block has its count and, counted once for all of its sets, six.
+const OPERANDS: [usize; 12] = [0, 3, 4, 7, 8, 7, 6, 6, 3, 15, 5, 7];
 
 /// Command and place of the ids, which have no range.
 const IDS: [(usize, usize); 3] = [(2, 0), (5, 1), (5, 2)];
@@ -66,20 +67,25 @@ struct Tally {
     /// Pages of accepted jobs, and those with a form feed.
     printed: u64,
     feeds: u64,
-    /// Cases of the commands of accepted jobs, and of flags refused.
+    /// Cases of the commands of accepted jobs, of flags refused and of blocks refused.
     met: Met,
     /// By number, from 1 to 9.
     refused: [u64; 10],
     /// Jobs by the command and the operand at fault.
-    at_fault: [[u64; 15]; 11],
+    at_fault: [[u64; 15]; 12],
 }
 
 impl Tally {
     fn fault(&mut self, job: &[u8], fault: &Fault) {
         if fault.number == 5 {
-            self.at_fault[fault.command as usize][fault.operand as usize] += 1;
+            let [command, mut operand] = [fault.command, fault.operand].map(|one| one as usize);
+            if command == usize::from(BLOCK) && operand > 0 {
+                operand = 1 + (operand - 1) % 6;
+            }
+            self.at_fault[command][operand] += 1;
             self.met.add(flags_refused(job, fault));
         }
+        self.met.add(storeys::refused(job, fault));
     }
 
     /// The jobs by operand at fault, in the order of the file, for each command with operands.
@@ -111,21 +117,24 @@ impl std::fmt::Display for Tally {
 
 // The jobs.
 
-/// How often each of the commands 02 to 0A is drawn, in turn for ten jobs each: all kinds, then mostly joints and members between them.
-const MIXES: [Mix; 2] = [
-    Mix([1, 2, 2, 3, 2, 4, 1, 5, 1]),
-    Mix([5, 1, 1, 8, 1, 1, 1, 1, 1]),
-];
+/// How often each of the commands 02 to 0B is drawn, in turn for ten jobs each, and the most commands: all kinds, mostly joints and
+/// members between them, or walls with blocks of storeys.
+const ALL: (Mix, u64) = (Mix([1, 2, 2, 3, 2, 4, 1, 5, 1, 0]), 40);
+const JOINTS: (Mix, u64) = (Mix([5, 1, 1, 8, 1, 1, 1, 1, 1, 0]), 40);
+const WALLS: (Mix, u64) = (Mix([0, 1, 0, 0, 4, 4, 0, 0, 1, 4]), 160);
+const MIXES: [(Mix, u64); 5] = [ALL, JOINTS, ALL, JOINTS, WALLS];
 
-/// One job of each kind in turn; every 200th is of 4,096 commands and every 200th of 4,097.
+/// One job of each kind in turn; every 200th is of 4,096 commands and every 200th of 4,097, and as many have a block near this limit.
 fn draw(random: &mut Random, number: u64) -> Vec<u8> {
     match number % 200 {
-        0 => return longest(random, 4096),
-        100 => return longest(random, 4097),
+        0 => return longest(random, MOST_COMMANDS),
+        100 => return longest(random, MOST_COMMANDS + 1),
+        50 | 150 => return generate::block_at_limit(random),
         _ => (),
     }
-    let commands = 1 + random.below(40) as usize;
-    let mut job = generate::valid(random, commands, &MIXES[(number / 10 % 2) as usize]);
+    let (mix, most) = &MIXES[(number / 10 % 5) as usize];
+    let commands = random.between(1, *most) as usize;
+    let mut job = generate::valid(random, commands, mix);
     match number % 10 {
         0 | 1 => (),
         2 | 3 => generate::at_demand(random, &mut job),
@@ -140,24 +149,25 @@ fn draw(random: &mut Random, number: u64) -> Vec<u8> {
             job = generate::out_of_range(random, &job);
             job = generate::damaged(random, &job);
         }
-        _ => {
+        _ if random.one_in(4) => {
             let length = random.below(200) as usize;
             job = generate::noise(random, length);
         }
+        _ => job = generate::block_at_fault(random),
     }
     job
 }
 
-/// A job of so many commands, all of one kind or of a mix. The generator stops at 4,096, so one more is repeated before the end.
+/// A job of so many commands, all of one kind or of a mix. The generator stops at 4,096, so one more is put before the end.
 fn longest(random: &mut Random, commands: usize) -> Vec<u8> {
     let mix = match random.below(4) {
         0 => Mix::EVEN,
         1 => Mix::only(9),
-        _ => Mix::only(3 + random.below(8) as u8),
+        _ => Mix::only(3 + random.below(9) as u8),
     };
-    let mut job = generate::valid(random, 4096, &mix);
+    let mut job = generate::valid(random, MOST_COMMANDS, &mix);
     job.pop();
-    for _ in 4096..commands {
+    for _ in MOST_COMMANDS..commands {
         // A detail in range: place 0, no depths, ductility 10.00, no lap.
         job.extend([0x0A, 0, 0, 0, 0, 0, 0x03, 0xE8, 0]);
     }
@@ -343,7 +353,7 @@ fn cases(job: &[u8], rows: usize) -> Vec<String> {
     let _ = reference::run(job, &mut words);
     let rows = words.as_chunks::<ROW>().0;
     let q = u64::from(u16::from_be_bytes([job[1], job[2]]));
-    let mut cases = Vec::new();
+    let mut cases = storeys::accepted(job);
     for command in generate::split(job) {
         cases.extend(shears::cases(q, &command));
     }
@@ -378,5 +388,11 @@ fn refused(flags: &str) -> String {
 /// The cases that must be met.
 fn wanted() -> Vec<String> {
     let refusals = ["8", "255", "between"].map(refused).to_vec();
-    [shears::wanted(), footings::wanted(), refusals].concat()
+    [
+        shears::wanted(),
+        footings::wanted(),
+        storeys::wanted(),
+        refusals,
+    ]
+    .concat()
 }

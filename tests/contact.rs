@@ -18,8 +18,8 @@ use generate::{Mix, Random, LIMIT};
 use reference::{Fault, Refusal, ROW};
 use rounds::{hexadecimal, Met};
 
-/// How often each of the commands 02 to 0A is drawn: mostly soils and footings.
-const MIX: Mix = Mix([1, 1, 1, 1, 1, 1, 4, 12, 1]);
+/// How often each of the commands 02 to 0B is drawn: mostly soils and footings.
+const MIX: Mix = Mix([1, 1, 1, 1, 1, 1, 4, 12, 1, 0]);
 
 /// The command of a footing, and the places of P and the flags among its operands.
 const FOOTING: u32 = 9;

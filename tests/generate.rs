@@ -1,33 +1,47 @@
 //! Pseudo-random jobs of documents 01 and 02: valid ones, with joints given again and with the two terms of a smaller-of rule equal or
-//! nearly so, ones of walls, ones with strengths at the demand, ones with operands out of range, damaged ones, noise; single commands by
-//! their values; and words of rows.
+//! nearly so, ones of walls, ones with strengths at the demand, ones with operands out of range, ones with a block at fault or at the limit
+//! of the commands, damaged ones, noise; single commands by their values; and words of rows.
 //! Assumes nothing; the same seed gives the same jobs.
 
 #![allow(dead_code, unused_imports)]
 
+mod blocks;
 mod commands;
 mod faults;
 pub mod rows;
 mod values;
 
 use crate::reference::{run, size, ROW};
-pub use commands::command;
+pub use blocks::{block_at_fault, block_at_limit};
+pub use commands::{block, command};
+pub use faults::put as put_faults;
 use values::Values;
 pub use values::{Random, LIMIT};
 
-/// Bytes of a command, its byte counted, by command byte.
-const WIDTHS: [usize; 11] = [1, 7, 14, 29, 33, 23, 25, 25, 7, 58, 9];
+/// Bytes of a command, its byte counted, by command byte; of a block those before its sets.
+const WIDTHS: [usize; 12] = [1, 7, 14, 29, 33, 23, 25, 25, 7, 58, 9, 2];
 
-/// How often each of the commands 02 to 0A is drawn.
+/// Bytes of a set.
+const SET: usize = 24;
+
+const STOREY: u8 = 7;
+pub const BLOCK: u8 = 11;
+
+/// Commands of a job, end not counted; and the sets of a block. A block counts as many commands as it has sets.
+pub const MOST_COMMANDS: usize = 4096;
+pub const MOST_SETS: usize = 64;
+
+/// How often each of the commands 02 to 0B is drawn.
 #[derive(Clone, Copy)]
-pub struct Mix(pub [u64; 9]);
+pub struct Mix(pub [u64; 10]);
 
 impl Mix {
-    pub const EVEN: Mix = Mix([1; 9]);
+    /// Each command but the block, which has the rows of many.
+    pub const EVEN: Mix = Mix([1, 1, 1, 1, 1, 1, 1, 1, 1, 0]);
 
     /// One command, with those that it needs before it.
     pub fn only(code: u8) -> Mix {
-        let mut weights = [0; 9];
+        let mut weights = [0; 10];
         weights[usize::from(code) - 2] = 1;
         Mix(weights)
     }
@@ -47,10 +61,11 @@ impl Mix {
 }
 
 /// An accepted job with `commands` commands from 1 to 4,096, settings counted, end not.
-/// A command that lacks its joint, wall base or soil is replaced by what it lacks. A joint has a new id, or one that was given.
+/// A command that lacks its joint, wall base or soil is replaced by what it lacks. A joint has a new id, or one that was given. A block
+/// has at most as many sets as there are commands left.
 pub fn valid(random: &mut Random, commands: usize, mix: &Mix) -> Vec<u8> {
-    let mut writer = Writer::begin(random);
-    for _ in 1..commands {
+    let mut writer = Writer::begin(random, commands);
+    while writer.left > 0 {
         let code = mix.draw(writer.values.random);
         writer.command(code);
     }
@@ -60,7 +75,7 @@ pub fn valid(random: &mut Random, commands: usize, mix: &Mix) -> Vec<u8> {
 
 /// An accepted job of walls: settings, then for each number a wall base and so many storeys.
 pub fn walls(random: &mut Random, storeys: &[usize]) -> Vec<u8> {
-    let mut writer = Writer::begin(random);
+    let mut writer = Writer::begin(random, MOST_COMMANDS);
     for &count in storeys {
         writer.command(6);
         (0..count).for_each(|_| writer.command(7));
@@ -69,21 +84,24 @@ pub fn walls(random: &mut Random, storeys: &[usize]) -> Vec<u8> {
     writer.job
 }
 
-/// A job being written, and what its commands have given.
+/// A job being written, how many commands are left to it, and what its commands have given.
 struct Writer<'r> {
     values: Values<'r>,
     job: Vec<u8>,
+    left: usize,
     joints: Vec<u8>,
     wall: bool,
     soil: bool,
 }
 
 impl<'r> Writer<'r> {
-    fn begin(random: &'r mut Random) -> Writer<'r> {
+    /// Settings, with which the job is to have so many commands.
+    fn begin(random: &'r mut Random, commands: usize) -> Writer<'r> {
         let values = Values::begin(random);
         let mut writer = Writer {
             values,
             job: vec![1],
+            left: commands - 1,
             joints: Vec::new(),
             wall: false,
             soil: false,
@@ -97,11 +115,17 @@ impl<'r> Writer<'r> {
     fn command(&mut self, wanted: u8) {
         let code = match wanted {
             5 if self.joints.is_empty() => 2,
-            7 if !self.wall => 6,
+            STOREY | BLOCK if !self.wall => 6,
             9 if !self.soil => 8,
             _ => wanted,
         };
         self.job.push(code);
+        if code == BLOCK {
+            let count = blocks::count(self.values.random).min(self.left);
+            self.left -= count;
+            return self.block(count);
+        }
+        self.left -= 1;
         match code {
             2 => self.joint(),
             3 => self.column(),
@@ -218,6 +242,11 @@ impl<'r> Writer<'r> {
         self.words(&[me, ve, j, j0, vr, ms]);
     }
 
+    fn block(&mut self, count: usize) {
+        self.job.push(count as u8);
+        (0..count).for_each(|_| self.storey());
+    }
+
     fn soil(&mut self) {
         self.soil = true;
         let kind = self.values.random.below(2) as u8;
@@ -295,7 +324,9 @@ fn rows_of(job: &[u8]) -> Vec<[i64; ROW]> {
 }
 
 fn set_strength(random: &mut Random, job: &mut [u8], row: &[i64; ROW]) {
-    let at = row[0] as usize + 1;
+    // A storey's row has the offset of its set where it is one of a block. ME of a set is below 7 in its first byte.
+    let alone = job[row[0] as usize] == row[1] as u8;
+    let at = row[0] as usize + usize::from(alone);
     let side = if random.one_in(2) { row[2] } else { -row[3] };
     match row[1] {
         3 => put(job, at + 24, random.near(row[2]), 0, LIMIT),
@@ -362,7 +393,7 @@ pub fn revised_between_members(job: &[u8]) -> bool {
 /// likely as another.
 pub fn out_of_range(random: &mut Random, job: &[u8]) -> Vec<u8> {
     let mut commands = split(job);
-    let present: Vec<u8> = (1..=10)
+    let present: Vec<u8> = (1..=BLOCK)
         .filter(|&code| commands.iter().any(|command| command[0] == code))
         .collect();
     let code = present[random.below(present.len() as u64) as usize];
@@ -410,7 +441,7 @@ fn rearrange(random: &mut Random, job: &mut Vec<u8>) {
         0 => commands.swap(one, other),
         1 => commands.insert(other, commands[one].clone()),
         2 => drop(commands.remove(one)),
-        _ => commands[one][0] = random.below(12) as u8,
+        _ => commands[one][0] = random.below(13) as u8,
     }
     *job = commands.concat();
 }
@@ -419,14 +450,31 @@ fn rearrange(random: &mut Random, job: &mut Vec<u8>) {
 pub fn split(job: &[u8]) -> Vec<Vec<u8>> {
     let mut commands = Vec::new();
     let mut rest = job;
-    while let Some(&code) = rest.first() {
-        let width = WIDTHS
-            .get(usize::from(code))
-            .map_or(rest.len(), |&width| width.min(rest.len()));
-        commands.push(rest[..width].to_vec());
-        rest = &rest[width..];
+    while !rest.is_empty() {
+        let (command, others) = rest.split_at(length(rest).min(rest.len()));
+        commands.push(command.to_vec());
+        rest = others;
     }
     commands
+}
+
+/// Bytes of the command that a job begins with, were it whole.
+fn length(job: &[u8]) -> usize {
+    let sets = match job {
+        [BLOCK, count, ..] => usize::from(*count),
+        _ => 0,
+    };
+    let width = WIDTHS.get(usize::from(job[0])).copied();
+    width.map_or(job.len(), |width| width + SET * sets)
+}
+
+/// How many commands a command counts as towards the limit; the end as none.
+pub fn weight(command: &[u8]) -> usize {
+    match command {
+        [0, ..] => 0,
+        [BLOCK, count, ..] => usize::from(*count),
+        _ => 1,
+    }
 }
 
 /// Random bytes.
@@ -434,13 +482,17 @@ pub fn noise(random: &mut Random, length: usize) -> Vec<u8> {
     (0..length).map(|_| random.next() as u8).collect()
 }
 
-/// Commands of random bytes after settings in range, then end.
+/// Commands of random bytes after settings in range, then end; a block has its count.
 pub fn random_operands(random: &mut Random, commands: usize) -> Vec<u8> {
-    let mut job = Writer::begin(random).job;
+    let mut job = Writer::begin(random, commands).job;
     for _ in 1..commands {
-        let code = 2 + random.below(9) as u8;
-        job.push(code);
-        job.extend(noise(random, WIDTHS[usize::from(code)] - 1));
+        let code = 2 + random.below(10) as u8;
+        let mut start = vec![code];
+        if code == BLOCK {
+            start.push(random.between(1, 4) as u8);
+        }
+        let operands = length(&start) - start.len();
+        job.extend([start, noise(random, operands)].concat());
     }
     job.push(0);
     job

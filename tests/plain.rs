@@ -1,5 +1,5 @@
-//! Plain Rust that does what the library's calls do, for the benchmark: writes a command (the range test, the room, the bytes) and prints
-//! a page (the words, the widths, the room, the bytes).
+//! Plain Rust that does what the library's calls do, for the benchmark: writes a command (the range test, the room, the bytes), a block
+//! (the count and the words before these) and prints a page (the words, the widths, the room, the bytes).
 //! Assumes nothing. A function is never inlined, as a call of the library cannot be, so that both pay for a call.
 
 use crate::library::write::{
@@ -156,14 +156,46 @@ impl Plain for WallBase {
     }
 }
 
+fn storey_in_range([me, ve, j, j0, vr, ms]: [u32; 6]) -> bool {
+    amounts([me, ve, vr, ms]) && 1 <= j && j <= j0
+}
+
+/// Six words a set; further words are not looked at.
+#[inline(never)]
+pub fn block(count: u32, lent: &[u32], bytes: &mut [u8]) -> WriteAnswer {
+    let answer = |number, bytes| WriteAnswer {
+        number,
+        offset: 0,
+        bytes,
+    };
+    let sets = lent.as_chunks::<6>().0.get(..count as usize);
+    let Some(sets) = sets.filter(|_| (1..=64).contains(&count)) else {
+        return answer(5, 0);
+    };
+    if !sets.iter().all(|&set| storey_in_range(set)) {
+        return answer(5, 0);
+    }
+    let length = 2 + 24 * sets.len();
+    let Some(room) = bytes.get_mut(..length) else {
+        return answer(11, 0);
+    };
+    room[0] = 11;
+    room[1] = count as u8;
+    let (places, _) = room[2..].as_chunks_mut::<24>();
+    for (place, set) in places.iter_mut().zip(sets) {
+        words(place, 0, *set);
+    }
+    answer(0, length)
+}
+
 impl Plain for Storey {
     #[inline(never)]
     fn write_plainly(self, bytes: &mut [u8]) -> WriteAnswer {
-        let in_range =
-            amounts([self.me, self.ve, self.vr, self.ms]) && 1 <= self.j && self.j <= self.j0;
+        let values = [self.me, self.ve, self.j, self.j0, self.vr, self.ms];
+        let in_range = storey_in_range(values);
         put::<25>(in_range, bytes, |b| {
             b[0] = 7;
-            words(b, 1, [self.me, self.ve, self.j, self.j0, self.vr, self.ms]);
+            words(b, 1, values);
         })
     }
 }

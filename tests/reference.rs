@@ -1,7 +1,8 @@
-//! Document 01 with requests No. 1 to 3, 5 and 6 of document 02 in plain Rust: size, run, total, take-down, writing a command and
+//! Document 01 with requests No. 1 to 3 and 5 to 7 of document 02 in plain Rust: size, run, total, take-down, writing a command and
 //! printing a page, written from the papers; and the operand at fault.
 //! Assumes nothing of the job's bytes, the rows or the number of rows.
 
+mod blocks;
 mod footing;
 mod members;
 mod operands;
@@ -16,7 +17,7 @@ use operands::Operands;
 #[allow(unused_imports)]
 pub use printing::{page, Printed, WIDTHS};
 #[allow(unused_imports)]
-pub use writing::{commands, layout, read_command, write_command, Command, Written};
+pub use writing::{commands, layout, read_command, write_block, write_command, Command, Written};
 
 /// Words of a row.
 pub const ROW: usize = 8;
@@ -32,8 +33,9 @@ const STOREY: u8 = 0x07;
 const SOIL: u8 = 0x08;
 const FOOTING: u8 = 0x09;
 const DETAIL: u8 = 0x0A;
+const BLOCK: u8 = 0x0B;
 
-/// Commands of a job, end not counted.
+/// Commands of a job, end not counted; a block counts as so many as it has sets.
 const MOST_COMMANDS: usize = 4096;
 
 /// Why a call gave no result: 01's number, the offset (or row) and the rows needed.
@@ -101,7 +103,7 @@ pub fn fault(job: &[u8]) -> Fault {
     };
     let command = job.get(offset).copied().unwrap_or(0);
     let operand = match number {
-        5 => at_fault(command, &job[offset + 1..]).expect("an operand out of range"),
+        5 => at_fault(&job[offset..]).expect("an operand out of range"),
         _ => 0,
     };
     Fault {
@@ -112,9 +114,13 @@ pub fn fault(job: &[u8]) -> Fault {
     }
 }
 
-/// The place of a command's operand at fault; its operands are the first of `bytes`.
-fn at_fault(code: u8, bytes: &[u8]) -> Option<usize> {
-    let operands = &bytes[..width(code)?];
+/// The place of the operand at fault in the whole command that bytes begin with.
+fn at_fault(bytes: &[u8]) -> Option<usize> {
+    let code = bytes[0];
+    if code == BLOCK {
+        return blocks::at_fault(bytes);
+    }
+    let operands = &bytes[1..][..width(code)?];
     match code {
         END => None,
         SETTINGS => Settings::read(fixed(operands)).at_fault(),
@@ -160,8 +166,9 @@ pub fn take_down(kind: u8, value: f32) -> Result<u32, Refusal> {
 
 // The first pass: every fault, and the number of rows.
 
-/// What the commands so far have given.
+/// How many commands there are so far, and what they have given.
 struct Given {
+    commands: usize,
     settings: bool,
     joints: [bool; 256],
     wall: bool,
@@ -171,22 +178,29 @@ struct Given {
 /// Tries every fault of a job in the papers' order and counts its rows.
 fn check(job: &[u8]) -> Result<usize, Refusal> {
     let mut given = Given {
+        commands: 0,
         settings: false,
         joints: [false; 256],
         wall: false,
         soil: false,
     };
-    let mut commands = 0;
     let mut rows = 0;
     let mut at = 0;
     loop {
         let code = *job.get(at).ok_or(Refusal::at(1, at))?;
+        if code == BLOCK {
+            let sets = given.admit_block(&job[at..]);
+            let count = sets.map_err(|number| Refusal::at(number, at))?;
+            rows += count;
+            at += blocks::HEAD + blocks::SET * count;
+            continue;
+        }
         let width = width(code).ok_or(Refusal::at(2, at))?;
         let operands = job[at + 1..].get(..width).ok_or(Refusal::at(1, at))?;
         if code == END {
             break;
         }
-        if commands == MOST_COMMANDS {
+        if given.commands == MOST_COMMANDS {
             return Err(Refusal::at(8, at));
         }
         if given.settings == (code == SETTINGS) {
@@ -195,7 +209,7 @@ fn check(job: &[u8]) -> Result<usize, Refusal> {
         rows += given
             .admit(code, operands)
             .map_err(|number| Refusal::at(number, at))?;
-        commands += 1;
+        given.commands += 1;
         at += 1 + width;
     }
     if !given.settings {
@@ -207,7 +221,7 @@ fn check(job: &[u8]) -> Result<usize, Refusal> {
     }
 }
 
-/// Bytes of a command's operands; none for an unknown command.
+/// Bytes of a command's operands; none for an unknown command, and for a block, whose count tells them.
 fn width(code: u8) -> Option<usize> {
     Some(match code {
         END => 0,
@@ -224,6 +238,20 @@ fn width(code: u8) -> Option<usize> {
 }
 
 impl Given {
+    /// Tries the faults of the block that bytes begin with: 1 for a missing count, 5 for the count, 1 for the sets, 8, 4, 6, then 5 for
+    /// the sets. Gives its count, which is the number of its rows.
+    fn admit_block(&mut self, bytes: &[u8]) -> Result<usize, u8> {
+        let count = blocks::count(bytes).ok_or(1)?;
+        ensure(blocks::COUNTS.contains(&count), 5)?;
+        let sets = blocks::sets(bytes).ok_or(1)?;
+        ensure(self.commands + count <= MOST_COMMANDS, 8)?;
+        ensure(self.settings, 4)?;
+        ensure(self.wall, 6)?;
+        ensure(sets.iter().all(|set| Storey::read(set).in_range()), 5)?;
+        self.commands += count;
+        Ok(count)
+    }
+
     /// Tries faults 5 and 6 of a command and gives the number of its rows.
     fn admit(&mut self, code: u8, operands: &[u8]) -> Result<usize, u8> {
         match code {
@@ -310,20 +338,14 @@ fn write(job: &[u8], rows: &mut [[i64; ROW]]) {
     let mut at = 0;
     while job[at] != END {
         let code = job[at];
-        let width = width(code).expect("a known command");
+        let width = match code {
+            BLOCK => 1 + blocks::SET * usize::from(job[at + 1]),
+            _ => width(code).expect("a known command"),
+        };
         let operands = &job[at + 1..][..width];
         let mut put = |w: [i64; 6]| {
             let row = rows.next().expect("a row of the job");
-            *row = [
-                at as i64,
-                i64::from(code),
-                w[0],
-                w[1],
-                w[2],
-                w[3],
-                w[4],
-                w[5],
-            ];
+            *row = placed(at, code, w);
         };
         match code {
             SETTINGS => held.settings = Settings::read(fixed(operands)),
@@ -340,6 +362,7 @@ fn write(job: &[u8], rows: &mut [[i64; ROW]]) {
                 put(base.row(&held.wall));
             }
             STOREY => put(Storey::read(fixed(operands)).row(&held.wall)),
+            BLOCK => write_sets(at + blocks::HEAD, &operands[1..], &held.wall, &mut rows),
             SOIL => held.soil = SoilGiven::read(fixed(operands)).soil(),
             FOOTING => {
                 let footing = Footing::read(fixed(operands));
@@ -350,6 +373,25 @@ fn write(job: &[u8], rows: &mut [[i64; ROW]]) {
         }
         at += 1 + width;
     }
+}
+
+/// Writes the rows of a block. A row has the offset of its set's first byte; that of the first is `at`.
+fn write_sets<'r>(
+    at: usize,
+    sets: &[u8],
+    wall: &Wall,
+    rows: &mut impl Iterator<Item = &'r mut [i64; ROW]>,
+) {
+    let offsets = (at..).step_by(blocks::SET);
+    for ((at, set), row) in offsets.zip(sets.as_chunks().0).zip(rows) {
+        *row = placed(at, STOREY, Storey::read(set).row(wall));
+    }
+}
+
+/// A row by its offset, the command's byte and words 2 to 7.
+fn placed(at: usize, code: u8, w: [i64; 6]) -> [i64; ROW] {
+    let (at, code) = (at as i64, i64::from(code));
+    [at, code, w[0], w[1], w[2], w[3], w[4], w[5]]
 }
 
 /// The operands of a command as an array of its width.

@@ -4,16 +4,17 @@ Runs every job by eak_size, eak_run and eak_total, writes the listing that they 
 NAME.job. Compares eak_fault with eak_size on each, and on those in docs/FORMAT.md, "Refusal 5 by operand", with the operand named
 there. Tries that words after the rows, and in a refusal every word, stay as they were; the version against the header's; calls
 with no elements; two soil values; and the job with the most rows.
-Writes each command of each accepted job again by the eak_write calls and compares the bytes; the structs are read from the header, and
-docs/FORMAT.md must name the same members. Prints the rows of each accepted job, and 101 others, by eak_page and compares the page with
-the same rows set in columns here; the columns and the values that they take are those of the document's table.
+Writes each command of each accepted job again by the eak_write calls, blocks too, and compares the bytes; the structs are read from the
+header, and docs/FORMAT.md must name the same members. Writes the longest block, which fills the commands of a job. Prints the rows of each
+accepted job, and 101 others, by eak_page and compares the page with the same rows set in columns here; the columns and the values that
+they take are those of the document's table.
 Prints what differs; the exit status is 0 only if nothing does. Standard library alone.
 """
 import ctypes
 import re
 import runpy
 import sys
-from struct import unpack_from
+from struct import pack, unpack_from
 
 WORDS, LENT, AS_LENT = 8, 8192, 0x5A5A5A5A5A5A5A5A
 
@@ -24,6 +25,11 @@ COLUMNS, LINES = (7, 3, 13, 13, 13, 13, 13, 5), 50
 SETTINGS = bytes.fromhex("01 015E 008C 0078")
 SOIL = bytes.fromhex("08 00 00000000 00")
 FOOTING = bytes.fromhex("09 000001F4 000001F4") + bytes(49)
+BASE = bytes.fromhex("06 00000064 00000064") + bytes(16)
+SET = (0, 0, 1, 1, 0, 0)
+
+# The byte of a block, and the words of a set.
+BLOCK, SET_WORDS = 0x0B, 6
 
 
 def struct(*fields):
@@ -41,6 +47,7 @@ SOIL_ANSWER = struct("u32 number", "u32 offset", "u32 value")
 WRITE_ANSWER = struct("u32 number", "size offset", "size bytes")
 PAGE_ANSWER = struct("u32 number", "size offset", "size rows", "size bytes")
 BYTES, ROWS, SIZE, LENT_BYTES = ctypes.c_char_p, ctypes.POINTER(ctypes.c_int64), ctypes.c_size_t, ctypes.c_void_p
+COUNT, SETS = ctypes.c_uint32, ctypes.POINTER(ctypes.c_uint32)
 
 # Each call of the header: its answer and its parameters. Those that write a command are made from the header's structs.
 CALLS = {
@@ -51,6 +58,7 @@ CALLS = {
     "eak_total": (TOTALS_ANSWER, [ROWS, SIZE, SIZE]),
     "eak_take_down": (SOIL_ANSWER, [ctypes.c_uint8, ctypes.c_float]),
     "eak_write_end": (WRITE_ANSWER, [LENT_BYTES, SIZE]),
+    "eak_write_block": (WRITE_ANSWER, [COUNT, SETS, SIZE, LENT_BYTES, SIZE]),
     "eak_page": (PAGE_ANSWER, [ROWS, SIZE, SIZE, LENT_BYTES, SIZE]),
 }
 
@@ -112,6 +120,10 @@ def described():
     return {name: re.findall(r"`(\w+)`", members) for name, members in rows}
 
 
+def write_block(library, count, words, lent, room):
+    return library.eak_write_block(count, (ctypes.c_uint32 * len(words))(*words), len(words), lent, room)
+
+
 def written(library, commands, job):
     """The bytes of an accepted job, each command written again by its call where the last one ended; and a byte more, as lent."""
     layouts = dict(runpy.run_path("examples/make.py")["COMMANDS"].values())
@@ -119,6 +131,13 @@ def written(library, commands, job):
     lent = (ctypes.c_uint8 * (len(job) + 1))(*[0x5A] * (len(job) + 1))
     at = 0
     while job[at]:
+        if job[at] == BLOCK:
+            count = job[at + 1]
+            words = unpack_from(f">{SET_WORDS * count}I", job, at + 2)
+            answer = write_block(library, count, words, ctypes.byref(lent, at), len(job) - at)
+            assert answer.bytes, f"the block at {at} is refused with {answer.number}"
+            at += answer.bytes
+            continue
         name, kinds = names[job[at]], re.findall(r":(\w)", layouts[job[at]])
         operands = unpack_from(">" + "".join(kinds), job, at + 1)
         answer = getattr(library, "eak_write_" + name)(commands[name](*operands), ctypes.byref(lent, at), len(job) - at)
@@ -212,6 +231,27 @@ def refused_writes(library, commands, most, same):
     same("a footing", FOOTING, bytes(lent))
 
 
+def blocks(library, defined, same):
+    """The longest block written and read; counts, words and room at their limits; and the commands that a block counts as."""
+    most, width = defined["EAK_MOST_SETS"], 2 + 4 * SET_WORDS * defined["EAK_MOST_SETS"]
+    same("the words of a set", defined["EAK_SET_WORDS"], SET_WORDS)
+    lent = (ctypes.c_uint8 * (width + 1))(*[0x5A] * (width + 1))
+    for what, number, count, words, room in (
+            ("no sets", 5, 0, SET, width), ("65 sets", 5, most + 1, SET * (most + 1), width), ("320 sets", 5, 320, SET * 320, width),
+            ("a word short", 5, most, (SET * most)[:-1], 0), ("J above J0", 5, 2, SET + (0, 0, 2, 1, 0, 0), 0),
+            ("a byte short", 11, most, SET * most, width - 1), ("no bytes", 11, 1, SET, 0)):
+        same(f"a block, {what}", (number, 0, 0), values(write_block(library, count, words, lent, room)))
+    same("the bytes of refused blocks", {0x5A}, set(lent))
+    same("a block of 64", (0, 0, width), values(write_block(library, most, SET * most + (7,), lent, width)))
+    block, last = bytes(lent)[:width], bytes(lent)[width]
+    same("its bytes", (bytes([BLOCK, most]) + pack(">6I", *SET) * most, 0x5A), (block, last))
+    before = SETTINGS + BASE + SOIL * (4096 - 2 - most)
+    job = before + block + b"\0"
+    same("4,096 commands with a block", (True, 0, 0, 1 + most), values(library.eak_size(job, len(job))))
+    job = before + SOIL + block + b"\0"
+    same("4,097 commands with a block", (8, len(before + SOIL), BLOCK, 0), values(library.eak_fault(job, len(job))))
+
+
 def main(path, header, jobs):
     with open(header, encoding="utf-8") as file:
         header = file.read()
@@ -235,6 +275,7 @@ def main(path, header, jobs):
     same("tangent 2.5", (5, 0, 0), values(library.eak_take_down(0, 2.5)))
     same("the members", {name: [member for member, _ in command._fields_] for name, command in commands.items()}, described())
     refused_writes(library, commands, defined["EAK_COMMAND_BYTES"], same)
+    blocks(library, defined, same)
     refused_pages(library, same)
     limits_of_columns(library, same)
     compare_page(library, "a page of 101 rows", [[n, 3, 1000 * n, -n, 0, n ** 5, -(n ** 5), n % 4] for n in range(101)], same)

@@ -12,7 +12,8 @@ enum { STACK = 1 << 20, PAINT = 0xA5, MARGIN = 128 };
 static _Alignas(4096) uint8_t stack[STACK];
 static uint8_t job[1 << 20];
 static int64_t rows[8192 * EAK_ROW_WORDS];
-static uint8_t written[EAK_COMMAND_BYTES];
+static uint8_t written[EAK_BLOCK_BYTES(64)];
+static uint32_t sets[64 * EAK_SET_WORDS];
 static uint8_t printed[EAK_PAGE_BYTES(1024)];
 static size_t bytes, kept;
 
@@ -23,6 +24,7 @@ static void total(void) { kept += eak_total(rows, sizeof rows / sizeof rows[0], 
 static void page(void) { kept += eak_page(rows, sizeof rows / sizeof rows[0], 1024, printed, sizeof printed).bytes; }
 static void take_down(void) { kept += eak_take_down(0, 0.7f).value; }
 static void version(void) { kept += eak_version(); }
+static void write_block(void) { kept += eak_write_block(64, sets, sizeof sets / sizeof sets[0], written, sizeof written).bytes; }
 static void write_end(void) { kept += eak_write_end(written, sizeof written).bytes; }
 
 /* The call that writes a command, with values in range. */
@@ -63,6 +65,7 @@ static const struct {
     {"eak_write_soil", write_soil},
     {"eak_write_footing", write_footing},
     {"eak_write_detail", write_detail},
+    {"eak_write_block", write_block},
     {"eak_write_end", write_end},
 };
 enum { CALLS = sizeof calls / sizeof calls[0] };
@@ -90,6 +93,7 @@ static void *measure(void *unused) {
 int main(int count, char **names) {
     pthread_attr_t attributes;
     pthread_t thread;
+    for (size_t i = 0; i < sizeof sets / sizeof sets[0]; i++) sets[i] = 1; /* in range: J and J0 are 1 */
     for (int i = 1; i < count; i++) {
         FILE *file = fopen(names[i], "rb");
         if (!file) return perror(names[i]), 2;

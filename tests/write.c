@@ -22,6 +22,11 @@ static const struct eak_storey storeys[] = {
     {3100000, 1020000, 133333333, 133333333, 3000000, 8500000},
     {1300000, 680000, 106666667, 133333333, 2000000, 4000000},
 };
+/* the same of the two storeys above them, as a block */
+static const uint32_t sets[] = {
+    600000, 430000, 106666667, 133333333, 1400000, 3000000,
+    150000, 160000, 45000000, 133333333, 800000, 2200000,
+};
 /* kind, value, sensitive */
 static const struct eak_soil soil = {0, 0.7f, 0};
 /* b, l, mr, me, nv, ne, xv, xe, yv, ye, hv, he, u, p, flags */
@@ -52,6 +57,7 @@ static void write_job(void) {
     put(eak_write_wall_base(wall, job + bytes, sizeof job - bytes), "wall W1");
     for (size_t i = 0; i < sizeof storeys / sizeof storeys[0]; i++)
         put(eak_write_storey(storeys[i], job + bytes, sizeof job - bytes), "storey of wall W1");
+    put(eak_write_block(2, sets, sizeof sets / sizeof sets[0], job + bytes, sizeof job - bytes), "upper storeys of wall W1");
     put(eak_write_soil(soil, job + bytes, sizeof job - bytes), "soil");
     put(eak_write_footing(footing, job + bytes, sizeof job - bytes), "footing F1");
     put(eak_write_detail(detail, job + bytes, sizeof job - bytes), "detail of wall W1");

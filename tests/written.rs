@@ -1,5 +1,6 @@
-//! Compares the proved library with the reference in writing commands: random values and room, with guard bytes around the bytes lent.
-//! What is written is read back by the reference, command by command and as files of commands written one after the other.
+//! Compares the proved library with the reference in writing commands: random values and room, with guard bytes around the bytes lent;
+//! blocks with random counts and words too. What is written is read back by the reference, command by command and as files of commands
+//! written one after the other.
 //! Arguments: commands, seed. Prints `N commands agree`, or the first disagreement. A run of 100,000 commands or more fails too when
 //! one of the cases that `wanted` lists was met fewer than ten times.
 //! Assumes nothing. Built by tests/run.
@@ -12,16 +13,18 @@ mod reference;
 mod rounds;
 
 use generate::Random;
-use library::write::write_command;
+use library::write::{write_block, write_command};
 use reference::{Command, Written};
 use rounds::Met;
+use std::cmp::Ordering;
 
 /// Bytes before and after those that a call is lent.
 const GUARD: usize = 64;
 
-/// The commands by their bytes.
+/// The commands by their bytes, blocks apart.
 const CODES: std::ops::RangeInclusive<u8> = 0..=10;
 const SOIL: u8 = 8;
+const BLOCK: u8 = 11;
 
 fn main() {
     let (commands, seed) = rounds::arguments();
@@ -38,22 +41,31 @@ fn main() {
 
 /// A command of each kind in turn; with every twentieth a file of commands.
 fn compare(random: &mut Random, number: u64, met: &mut Met) -> Result<(), String> {
-    let code = (number % 11) as u8;
-    let command = generate::command(random, code);
-    let width = width(code);
-    let room = match random.below(8) {
+    let code = (number % 12) as u8;
+    if code == BLOCK {
+        met.add(block(random)?);
+    } else {
+        let command = generate::command(random, code);
+        let room = room(random, width(code));
+        one(random, &command, room)
+            .map_err(|words| format!("{command:x?}, room {room}: {words}"))?;
+        met.add(cases(&command, room));
+    }
+    if number % 20 == 0 {
+        file(random)?;
+    }
+    Ok(())
+}
+
+/// Bytes lent for so many that are needed, which are one at least: none, fewer, as many, more.
+fn room(random: &mut Random, width: usize) -> usize {
+    match random.below(8) {
         0 => 0,
         1 | 2 => width - 1,
         3 | 4 => width,
         5 => random.below(width as u64) as usize,
         _ => width + 1 + random.below(70) as usize,
-    };
-    one(random, &command, room).map_err(|words| format!("{command:x?}, room {room}: {words}"))?;
-    met.add(cases(&command, room));
-    if number % 20 == 0 {
-        file(random)?;
     }
-    Ok(())
 }
 
 /// The bytes of a command, its byte counted.
@@ -89,20 +101,59 @@ fn one(random: &mut Random, command: &Command, room: usize) -> Result<(), String
     Ok(())
 }
 
-/// Writes commands one after the other, of which the refused ones change nothing, and an end; in a stretch that may be too short for
-/// them all. Read back, they are the commands that were accepted, each at the offset at which it was written.
+/// Writes a block in both implementations, as `one` does a command. What it is a case of.
+fn block(random: &mut Random) -> Result<Vec<String>, String> {
+    let (count, words) = generate::block(random);
+    let room = room(random, 2 + 24 * count.min(300) as usize);
+    let before = generate::noise(random, room + 2 * GUARD);
+    let [mut found, mut expected] = [before.clone(), before];
+    let lent = GUARD..GUARD + room;
+    let answer = write_block(count, &words, &mut found[lent.clone()]);
+    let wanted = reference::write_block(count, &words, &mut expected[lent.clone()]);
+    let what = format!("block of {count} in {} words, room {room}", words.len());
+    same(&format!("{what}: answer"), &answer, &wanted)?;
+    same(&format!("{what}: bytes, guards too,"), &found, &expected)?;
+    if answer.number == 0 {
+        let read = reference::read_command(&found[lent]);
+        same(
+            &format!("{what}: read back"),
+            &read,
+            &Some(block_of(count, &words)),
+        )?;
+    }
+    Ok(block_cases(count, &words, room))
+}
+
+/// The command of a block, by its count and the words of its sets, of which there are enough.
+fn block_of(count: u32, words: &[u32]) -> Command {
+    let values = [&[count], &words[..6 * count as usize]].concat();
+    Command {
+        code: BLOCK,
+        values: values.into_iter().map(i64::from).collect(),
+    }
+}
+
+/// Writes commands one after the other, blocks too, of which the refused ones change nothing, and an end; in a stretch that may be too
+/// short for them all. Read back, they are the commands that were accepted, each at the offset at which it was written.
 fn file(random: &mut Random) -> Result<(), String> {
-    let length = random.between(1, 1000) as usize;
+    let length = random.between(1, 2000) as usize;
     let mut bytes = generate::noise(random, length);
     let mut at = 0;
     let mut accepted = Vec::new();
     for _ in 0..random.below(40) {
-        let code = random.between(1, 10) as u8;
-        let command = generate::command(random, code);
-        let answer = write_command(&command, &mut bytes[at..length - 1]);
-        if answer.number == 0 {
-            accepted.push((at, command));
-        }
+        let code = random.between(1, 11) as u8;
+        let room = &mut bytes[at..length - 1];
+        let answer = if code == BLOCK {
+            let (count, words) = generate::block(random);
+            let answer = write_block(count, &words, room);
+            accepted.extend((answer.number == 0).then(|| (at, block_of(count, &words))));
+            answer
+        } else {
+            let command = generate::command(random, code);
+            let answer = write_command(&command, room);
+            accepted.extend((answer.number == 0).then_some((at, command)));
+            answer
+        };
         at += answer.bytes;
     }
     let end = Command {
@@ -153,6 +204,41 @@ fn cases(command: &Command, room: usize) -> Vec<String> {
         cases.push(case(code, format!("{sign}{:?}", value.classify())));
     }
     cases
+}
+
+const FEWER: &str = "too few words";
+const EXACT: &str = "exact words";
+const FURTHER: &str = "further words";
+
+/// What a block with its words and its room is a case of.
+fn block_cases(count: u32, words: &[u32], room: usize) -> Vec<String> {
+    let enough = match words.len().cmp(&(6 * count as usize)) {
+        Ordering::Less => FEWER,
+        Ordering::Equal => EXACT,
+        Ordering::Greater => FURTHER,
+    };
+    let counted = match count {
+        0 | 1 | 2 | 63 | 64 | 65 => count.to_string(),
+        3..=62 => "others".to_string(),
+        66..=255 => "above".to_string(),
+        _ => "too wide".to_string(),
+    };
+    let mut cases = vec![format!("count {counted}, {enough}")];
+    if (1..=64).contains(&count) {
+        let how_much = how_much(room, 2 + 24 * count as usize);
+        let at_fault = (enough != FEWER)
+            .then(|| block_of(count, words).at_fault())
+            .flatten();
+        if let Some(operand) = at_fault {
+            cases.push(format!("operand {} of a set at fault", (operand - 1) % 6));
+            cases.push(format!("5, a set, {how_much}"));
+        } else if enough == FEWER {
+            cases.push(format!("5, {FEWER}, {how_much}"));
+        } else {
+            cases.push(format!("no 5, {enough}, {how_much}"));
+        }
+    }
+    cases.iter().map(|text| case(BLOCK, text)).collect()
 }
 
 fn how_much(room: usize, width: usize) -> &'static str {
@@ -214,8 +300,26 @@ fn wanted() -> Vec<String> {
             }
         }
     }
+    wanted.extend(wanted_of_blocks().iter().map(|text| case(BLOCK, text)));
     for sort in ["Zero", "Subnormal", "Normal", "Infinite", "Nan"] {
         wanted.extend(["+", "-"].map(|sign| case(SOIL, format!("{sign}{sort}"))));
+    }
+    wanted
+}
+
+fn wanted_of_blocks() -> Vec<String> {
+    let mut wanted = vec![format!("count 0, {FURTHER}")];
+    for count in ["1", "2", "63", "64", "others"] {
+        wanted.extend([FEWER, EXACT, FURTHER].map(|enough| format!("count {count}, {enough}")));
+    }
+    for count in ["65", "above", "too wide"] {
+        wanted.extend([FEWER, FURTHER].map(|enough| format!("count {count}, {enough}")));
+    }
+    wanted.extend((0..6).map(|place| format!("operand {place} of a set at fault")));
+    for how_much in ["exact room", "more room", "one byte short", "shorter"] {
+        wanted.push(format!("5, {FEWER}, {how_much}"));
+        wanted.push(format!("5, a set, {how_much}"));
+        wanted.extend([EXACT, FURTHER].map(|enough| format!("no 5, {enough}, {how_much}")));
     }
     wanted
 }

@@ -1,9 +1,11 @@
 //! Random commands by their values: in range and often at its ends, with values out of range, wider than the file has room for, or
-//! any that the members of the header's structs can have.
+//! any that the members of the header's structs can have; blocks by their counts and words.
 //! Assumes nothing; a soil value is given by its 32 bits.
 
-use super::faults::{one_of, operands, Operand};
+use super::blocks::count;
+use super::faults::{count_out_of_range, one_of, operands, Operand};
 use super::values::{Random, LIMIT};
+use super::{MOST_SETS, STOREY};
 use crate::reference::Command;
 use Operand::{Id, Signed, SoilValue, Unsigned};
 
@@ -18,6 +20,36 @@ const TURNS: [u32; 8] = [
     0x8000_0000,
     0xFF80_0000,
 ];
+
+/// The count of a block and the words of its sets: mostly as many as the count asks for and in range; at times fewer or more words, a
+/// count out of range with enough words for it or not, sets out of range.
+pub fn block(random: &mut Random) -> (u32, Vec<u32>) {
+    let mut count = count(random) as u32;
+    let mut words = Vec::new();
+    let bad = random.below(6 * u64::from(count)) as u32;
+    for set in 0..count {
+        let at_fault = bad == set;
+        let storey = std::iter::repeat_with(|| command(random, STOREY))
+            .find(|storey| storey.at_fault().is_some() == at_fault);
+        let values = storey.expect("a storey").values;
+        words.extend(values.into_iter().map(|value| value as u32));
+    }
+    match random.below(16) {
+        0 => words.truncate(words.len() - 1),
+        1 => words.truncate(random.below(words.len() as u64) as usize),
+        2 => words.push(random.next() as u32),
+        3 => words.extend((0..random.below(400)).map(|_| random.next() as u32)),
+        4 => count = u32::from(count_out_of_range(random)),
+        5 => count = random.next() as u32,
+        // What is left of it when it is cut to its byte is in range.
+        6 => count += 256 * random.between(1, 4) as u32,
+        _ => (),
+    }
+    if count > MOST_SETS as u32 && random.one_in(2) {
+        words = words.into_iter().cycle().take(6 * 1280).collect();
+    }
+    (count, words)
+}
 
 /// A command of the byte `code`, 00 to 0A. At least half of them are in range.
 pub fn command(random: &mut Random, code: u8) -> Command {

@@ -2,6 +2,7 @@
 //! Assumes of a command that its bytes are whole.
 
 use super::values::{Random, LIMIT};
+use super::{BLOCK, MOST_SETS, SET, STOREY};
 
 /// An operand of so many bytes with the least and the greatest number in range. An id has no other numbers, a soil value depends
 /// on its kind.
@@ -101,8 +102,11 @@ pub fn one_of(random: &mut Random, first: u64, last: u64) -> u64 {
 }
 
 /// Puts faults into a command in range: one operand or two out of range, or the relation broken, alone or with an operand out of
-/// range; in a footing often the flags alone. A command without operands stays.
+/// range; in a footing often the flags alone; in a block in one set or two, now and then in the count. A command without operands stays.
 pub fn put(random: &mut Random, command: &mut [u8]) {
+    if command[0] == BLOCK {
+        return put_in_block(random, command);
+    }
     let operands = operands(command[0]);
     let mut ranged: Vec<usize> = (0..operands.len())
         .filter(|&place| operands[place].has_range())
@@ -126,6 +130,30 @@ pub fn put(random: &mut Random, command: &mut [u8]) {
             .sum::<usize>();
         let number = operands[place].out_of_range(random);
         command[at..at + width].copy_from_slice(&number.to_be_bytes()[4 - width..]);
+    }
+}
+
+/// Puts faults into the first, the last or another set of a block, here and there into two; or a count out of range.
+fn put_in_block(random: &mut Random, block: &mut [u8]) {
+    if random.one_in(8) {
+        block[1] = count_out_of_range(random);
+        return;
+    }
+    let sets = block[2..].as_chunks_mut::<SET>().0;
+    for _ in 0..=random.below(8) / 7 {
+        let place = one_of(random, 0, sets.len() as u64 - 1) as usize;
+        let mut storey = [&[STOREY][..], &sets[place]].concat();
+        put(random, &mut storey);
+        sets[place].copy_from_slice(&storey[1..]);
+    }
+}
+
+/// 0 or above 64.
+pub fn count_out_of_range(random: &mut Random) -> u8 {
+    if random.one_in(3) {
+        0
+    } else {
+        one_of(random, MOST_SETS as u64 + 1, 255) as u8
     }
 }
 

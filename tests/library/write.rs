@@ -92,6 +92,13 @@ declare! {
 
 extern "C" {
     fn eak_write_end(bytes: *mut u8, room: usize) -> WriteAnswer;
+    fn eak_write_block(
+        count: u32,
+        sets: *const u32,
+        words: usize,
+        bytes: *mut u8,
+        room: usize,
+    ) -> WriteAnswer;
 }
 
 /// The end, which has no struct.
@@ -110,7 +117,28 @@ impl Values for End {
     }
 }
 
-/// Writes a command whose values fit the members of its struct.
+/// The sets of a block, which have no struct: six words a set.
+#[inline(always)]
+pub fn block(count: u32, sets: &[u32], bytes: &mut [u8]) -> WriteAnswer {
+    let (words, room) = (sets.len(), bytes.len());
+    unsafe { eak_write_block(count, sets.as_ptr(), words, bytes.as_mut_ptr(), room) }
+}
+
+pub fn write_block(count: u32, sets: &[u32], bytes: &mut [u8]) -> Written {
+    block(count, sets, bytes).into()
+}
+
+impl From<WriteAnswer> for Written {
+    fn from(found: WriteAnswer) -> Written {
+        Written {
+            number: found.number,
+            offset: found.offset,
+            bytes: found.bytes,
+        }
+    }
+}
+
+/// Writes a command whose values fit the members of its struct; a block has its count, then its sets.
 pub fn write_command(command: &Command, bytes: &mut [u8]) -> Written {
     let values = &command.values;
     let found = match command.code {
@@ -125,11 +153,11 @@ pub fn write_command(command: &Command, bytes: &mut [u8]) -> Written {
         8 => Soil::of(values).write(bytes),
         9 => Footing::of(values).write(bytes),
         10 => Detail::of(values).write(bytes),
-        _ => unreachable!("a command of 00 to 0A"),
+        11 => {
+            let values: Vec<u32> = values.iter().map(|&value| u32::of(value)).collect();
+            block(values[0], &values[1..], bytes)
+        }
+        _ => unreachable!("a command of 00 to 0B"),
     };
-    Written {
-        number: found.number,
-        offset: found.offset,
-        bytes: found.bytes,
-    }
+    found.into()
 }

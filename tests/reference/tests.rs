@@ -1,10 +1,10 @@
 //! Tries the calls where a listing does not show them: short and long slices, the operand at fault, totals, take-down, writing,
-//! printing. Where q governs, at equality and on both sides of it; and footings with each of their flags.
+//! printing. Where q governs, at equality and on both sides of it; footings with each of their flags; and storeys in blocks.
 
 use super::members::Coefficient;
-use super::{at_fault, commands, layout, read_command, write_command, Command, Written};
+use super::{at_fault, commands, layout, read_command, write_block, write_command};
 use super::{fault, run, size, take_down, total, Fault, Refusal, Totals};
-use super::{page, Printed};
+use super::{page, Command, Printed, Written};
 
 /// Settings 350, 140, 120, a detail that passes, one that does not with a lap at a wall base, end.
 const JOB: [u8; 26] = [
@@ -48,7 +48,7 @@ fn the_order_of_trial_at_the_limit() {
     assert_eq!(then(&[0]), Ok(0));
     assert_eq!(then(&[]), refusal(1, at, 0));
     assert_eq!(then(&[0, 0]), refusal(3, at + 1, 0));
-    assert_eq!(then(&[11]), refusal(2, at, 0));
+    assert_eq!(then(&[12]), refusal(2, at, 0));
     assert_eq!(then(&[1, 0, 0]), refusal(1, at, 0));
     assert_eq!(then(&JOB[..7]), refusal(8, at, 0));
     assert_eq!(then(&[8, 9, 0, 0, 0, 0, 0]), refusal(8, at, 0));
@@ -296,6 +296,152 @@ fn the_exception_asks_for_bits_0_and_1_whatever_bit_2_is() {
     }
 }
 
+// Storeys in blocks (02, No. 7).
+
+/// A block of storeys, each a storey's bytes; the count may be another than theirs.
+fn block_of(count: u8, storeys: &[Vec<u8>]) -> Vec<u8> {
+    let sets: Vec<&[u8]> = storeys.iter().map(|storey| &storey[1..]).collect();
+    [&[11, count], &sets.concat()[..]].concat()
+}
+
+/// So many storeys in range.
+fn block(count: u8) -> Vec<u8> {
+    block_of(count, &vec![command(7, &[]); usize::from(count)])
+}
+
+/// Two walls, the second with other figures; each storey with its own.
+#[test]
+fn a_block_has_the_rows_of_its_storeys() {
+    let bases = [1, 2].map(|mr| command(6, &[(2, 1000 * mr), (3, 900), (4, 700)]));
+    let storey = |n| {
+        command(
+            7,
+            &[
+                (0, 100 * n),
+                (1, 70 * n),
+                (2, n),
+                (3, 9),
+                (4, 300),
+                (5, 200),
+            ],
+        )
+    };
+    let storeys: Vec<Vec<u8>> = (1..=6).map(storey).collect();
+    let singly = [
+        &JOB[..7],
+        &bases[0],
+        &storeys[..3].concat(),
+        &bases[1],
+        &storeys[3..].concat(),
+        &[0],
+    ];
+    let blocks = [
+        &JOB[..7],
+        &bases[0],
+        &block_of(3, &storeys[..3]),
+        &bases[1],
+        &block_of(2, &storeys[3..5]),
+        &storeys[5],
+        &[0],
+    ];
+    let [singly, blocks] = [singly.concat(), blocks.concat()].map(|job| {
+        let mut words = [0; 64];
+        assert_eq!((size(&job), run(&job, &mut words)), (Ok(8), Ok(8)));
+        assert_eq!(run(&job, &mut [0; 63]), refusal(9, 0, 8));
+        words
+    });
+    let offsets = [7, 34, 58, 82, 106, 133, 157, 181];
+    for (row, offset) in offsets.into_iter().enumerate() {
+        let words = 8 * row + 1..8 * row + 8;
+        assert_eq!(blocks[8 * row], offset);
+        assert_eq!(blocks[words.clone()], singly[words]);
+    }
+    assert_eq!([blocks[1], blocks[9], blocks[57]], [6, 7, 7]);
+}
+
+/// Each fault with all those behind it in the order, as far as they go together.
+#[test]
+fn the_order_of_trial_at_a_block() {
+    let [base, bad] = [command(6, &[]), command(7, &[(5, u32::MAX)])];
+    let settings = JOB[..7].to_vec();
+    let refused = |parts: &[&[u8]], number, offset| {
+        assert_eq!(size(&parts.concat()), refusal(number, offset, 0));
+    };
+    refused(&[&[11]], 1, 0);
+    refused(&[&settings, &[11]], 1, 7);
+    refused(&[&[11, 0]], 5, 0);
+    refused(&[&block_of(65, &[])], 5, 0);
+    refused(&[&settings, &block_of(255, &[])], 5, 7);
+    refused(&[&block_of(2, &[bad.clone()])], 1, 0);
+    refused(&[&block_of(64, &[])], 1, 0);
+    refused(&[&block(64)[..1537]], 1, 0);
+    refused(&[&block_of(1, &[bad.clone()])], 4, 0);
+    refused(&[&settings, &block_of(1, &[bad.clone()]), &[0]], 6, 7);
+    refused(&[&settings, &block(1), &[0]], 6, 7);
+    refused(&[&settings, &base, &block_of(1, &[bad]), &[0]], 5, 32);
+    refused(&[&settings, &base, &block(64)], 1, 1570);
+    assert_eq!(
+        size(&[&settings, &base, &block(64), &[0][..]].concat()),
+        Ok(65)
+    );
+}
+
+/// A block of 64 fills the commands after 4,032 others and passes them after one more.
+#[test]
+fn a_block_counts_as_so_many_commands() {
+    let bad = block_of(2, &vec![command(7, &[(0, u32::MAX)]); 2]);
+    let before = |soils| [&JOB[..7], &command(8, &[]).repeat(soils), &command(6, &[])].concat();
+    let then = |soils, bytes: &[u8]| size(&[&before(soils), bytes, &[0]].concat());
+    let at = |soils: usize| 32 + 7 * soils;
+    assert_eq!(then(4030, &block(64)), Ok(65));
+    assert_eq!(then(4031, &block(64)), refusal(8, at(4031), 0));
+    assert_eq!(then(4031, &block(63)), Ok(64));
+    assert_eq!(
+        then(4030, &[block(64), block(1)].concat()),
+        refusal(8, at(4030) + 1538, 0)
+    );
+    assert_eq!(
+        then(4030, &[block(64), command(8, &[])].concat()),
+        refusal(8, at(4030) + 1538, 0)
+    );
+    assert_eq!(then(4094, &block(1)), refusal(8, at(4094), 0));
+    assert_eq!(then(4093, &bad), refusal(8, at(4093), 0));
+    assert_eq!(then(4092, &bad), refusal(5, at(4092), 0));
+    assert_eq!(then(4094, &block_of(64, &[])), refusal(1, at(4094), 0));
+    assert_eq!(then(4094, &[11, 65]), refusal(5, at(4094), 0));
+    let without_base = [&JOB[..7], &command(8, &[]).repeat(4094), &block(2), &[0]].concat();
+    assert_eq!(size(&without_base), refusal(8, 7 * 4095, 0));
+}
+
+/// The count is operand 0, operand j of set i is 1 + 6 · i + j; a set's relation comes before the next set's ranges.
+#[test]
+fn each_operand_of_a_block_is_named() {
+    let named = |count, storeys: &[Vec<u8>]| {
+        let found = fault_of(&[command(6, &[]), block_of(count, storeys)]);
+        assert_eq!((found.number, found.offset, found.command), (5, 32, 11));
+        found.operand
+    };
+    let good = command(7, &[]);
+    for place in 0..6 {
+        let number = if place == 3 { 0 } else { u32::MAX };
+        let bad = command(7, &[(place, number)]);
+        for set in [0, 1, 2, 63] {
+            let mut storeys = vec![good.clone(); 64];
+            storeys[set] = bad.clone();
+            storeys[63] = bad.clone();
+            assert_eq!(named(64, &storeys), (1 + 6 * set + place) as u32);
+        }
+        assert_eq!(named(1, &[bad]), 1 + place as u32);
+    }
+    let above = command(7, &[(2, 5), (3, 3)]);
+    let late = command(7, &[(2, 5), (3, 3), (4, u32::MAX)]);
+    let first = command(7, &[(0, u32::MAX)]);
+    assert_eq!(named(3, &[good.clone(), above, first.clone()]), 9);
+    assert_eq!(named(2, &[late, first]), 5);
+    assert_eq!([0, 65, 255].map(|count| named(count, &[])), [0; 3]);
+    assert_eq!(fault_of(&[block(1)]).operand, 0);
+}
+
 // The operand at fault.
 
 /// The widths of each command's operands, from 01 to 0A.
@@ -370,7 +516,7 @@ fn a_fault_has_the_byte_at_its_offset() {
     assert_eq!(fault(&JOB[..25]), at(1, 25, 0));
     assert_eq!(fault(&JOB[..24]), at(1, 16, 10));
     assert_eq!(fault(&[255]), at(2, 0, 255));
-    assert_eq!(fault_of(&[vec![11]]), at(2, 7, 11));
+    assert_eq!(fault_of(&[vec![12]]), at(2, 7, 12));
     assert_eq!(fault_of(&[vec![0, 255]]), at(3, 8, 255));
     assert_eq!(fault_of(&[vec![0]]), at(3, 8, 0));
     assert_eq!(fault(&[0, 9]), at(4, 0, 0));
@@ -589,13 +735,82 @@ fn the_writer_and_the_reader_have_the_same_ranges() {
             for number in [least - 1, least, most, most + 1] {
                 let bytes = command(code, &[(place, number as u32)]);
                 let read = read_command(&bytes).expect("a whole command");
-                assert_eq!(read.at_fault(), at_fault(code, &bytes[1..]));
+                assert_eq!(read.at_fault(), at_fault(&bytes));
                 if read.at_fault().is_none() {
                     let found = written(code, &read.values, bytes.len());
                     assert_eq!(found, (answer(0, bytes.len()), bytes));
                 }
             }
         }
+    }
+}
+
+/// The answer of a block's write, and the bytes lent after the call, each A5 before it.
+fn block_written(count: u32, words: &[u32], room: usize) -> (Written, Vec<u8>) {
+    let mut bytes = vec![0xA5; room];
+    (write_block(count, words, &mut bytes), bytes)
+}
+
+#[test]
+fn a_block_is_written_and_nothing_else() {
+    let words = [
+        1,
+        2,
+        3,
+        4,
+        5,
+        6,
+        0,
+        100_000_000,
+        u32::MAX,
+        u32::MAX,
+        0,
+        0,
+        u32::MAX,
+    ];
+    let mut expected = vec![11, 2];
+    expected.extend(words[..12].iter().flat_map(|word| word.to_be_bytes()));
+    for words in [&words[..12], &words] {
+        assert_eq!(
+            block_written(2, words, 50),
+            (answer(0, 50), expected.clone())
+        );
+    }
+    let (found, bytes) = block_written(1, &words, 28);
+    assert_eq!((found, bytes[0..2].to_vec()), (answer(0, 26), vec![11, 1]));
+    assert_eq!(bytes[26..], [0xA5; 2]);
+    let read = read_command(&expected).expect("a whole block");
+    assert_eq!(read.values[..7], [2, 1, 2, 3, 4, 5, 6]);
+    assert_eq!(write_command(&read, &mut [0; 50]), answer(0, 50));
+    assert_eq!(commands(&[&expected[..], &[0]].concat())[1].0, 50);
+    let most = [0, 0, 1, 1, 0, 0].repeat(64);
+    assert_eq!(block_written(64, &most, 1538).0, answer(0, 1538));
+    assert_eq!(block_written(64, &most, 1538).1, block(64));
+}
+
+#[test]
+fn a_refused_block_changes_nothing() {
+    let good = [0, 0, 1, 1, 0, 0].repeat(65);
+    let with = |place: usize, word| {
+        let mut words = good[..384].to_vec();
+        words[place] = word;
+        words
+    };
+    for room in [0, 1537, 1538, 1600] {
+        let refused = (answer(5, 0), vec![0xA5; room]);
+        for count in [0, 65, 256, 257, u32::MAX] {
+            assert_eq!(block_written(count, &good, room), refused);
+        }
+        assert_eq!(block_written(64, &good[..383], room), refused);
+        assert_eq!(block_written(1, &[], room), refused);
+        assert_eq!(block_written(64, &with(0, 100_000_001), room), refused);
+        assert_eq!(block_written(64, &with(383, u32::MAX), room), refused);
+        assert_eq!(block_written(64, &with(380, 2), room), refused);
+        assert_eq!(block_written(64, &with(381, 0), room), refused);
+    }
+    for room in [0, 1, 1537] {
+        let refused = (answer(11, 0), vec![0xA5; room]);
+        assert_eq!(block_written(64, &good, room), refused);
     }
 }
 

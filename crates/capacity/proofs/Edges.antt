@@ -34,8 +34,9 @@ use Rattle.format.specs.Reading.{commandAt}
 use Rattle.context.specs.Context.{next, absent}
 use Rattle.rows.specs.Rows.{rowsOf, rowsWith}
 use Rattle.rows.specs.Writing.{joined}
-use Rattle.job.specs.Faults.{tooMany, misplaced, testsAt}
-use Rattle.job.specs.Placed.{placedBy, placed, allRows}
+use Rattle.blocks.specs.FileCommands.{fileCommandAt, widthAt}
+use Rattle.job.specs.Faults.{tooMany, misplaced, commandTests, testsAt}
+use Rattle.job.specs.Placed.{listedBy, listed, placed, allRows}
 use Rattle.job.specs.Answers.{rowsAnswer}
 use Rattle.capacity.specs.Calls.{runOf, rowsAfter}
 
@@ -257,7 +258,7 @@ pub record Edges : Type 0 where
 
 pub edges : Edges
 unfolding
-    runOf rowsAfter placed placedBy allRows rowsOf rowsWith testsAt tooMany misplaced known knownIn formsOf formsIn operandsWidth widthOfAll width commandAt commandOf readOperands number numberAfter inRange allInRange
+    runOf rowsAfter placed listed listedBy allRows rowsOf rowsWith testsAt commandTests fileCommandAt widthAt tooMany misplaced known knownIn formsOf formsIn operandsWidth widthOfAll width commandAt commandOf readOperands number numberAfter inRange allInRange
     formInRange related within withinSigned signed32 bits32 next absent columnRow beamRow hingelessRow detailRow baseRow baseRowFrom storeyRow storeyRowFrom footingRow baseResistance coefficientOf capGoverns smaller up down upℤ downℤ
     firstFrom leastRoot soilAllowed soilHolding valueAllowed kindKnown topOf factorOf allowed cut taken takeDown tangentOf accepted refused ofBits
 edges =

@@ -1,5 +1,6 @@
 -- Demand 3 for a whole job; what `run` gives twice and on a longer slice; how large its words are, and their page;
--- joints given again; the words of a storey; where the cap governs; jobs and the call `write`; its verdicts at their bounds.
+-- joints given again; the words of a storey; where the cap governs; jobs and the calls that write; a block and its storeys singly; its
+-- verdicts at their bounds.
 mod Ranges
 mod RowsTrue
 pub mod RowsSized
@@ -13,4 +14,6 @@ pub mod Revised
 pub mod StoreyWords
 pub mod Governs
 pub mod WrittenAgain
+mod FileListed
+pub mod Singly
 pub mod Edges

@@ -22,9 +22,10 @@ use Rattle.context.proofs.Shown.{present}
 use Rattle.rows.specs.Rows.{words, rowsWith, rowsOf}
 use Rattle.rows.specs.Writing.{joined}
 use Rattle.job.specs.Faults.{testsAt, misplaced}
-use Rattle.job.specs.Placed.{Placed, Job, refused, accepted, placedWith, placed, rowsAt, allRows}
+use Rattle.job.specs.Placed.{Placed, Entry, placedAll, Job, refused, accepted, listed, placedWith, placed, rowsAt, allRows}
 use Rattle.job.specs.Answers.{rowsAnswer, sizeFrom, sizeOf, faultIn, faultOf}
 use Rattle.job.specs.Earlier.{latestJoint, endingBy}
+use Rattle.job.proofs.PlacedCases.{placed-of}
 use Rattle.job.proofs.AcceptedLaws.{accepted-each}
 use Rattle.job.proofs.AcceptedBefore.{with7, accepted-before}
 use Rattle.job.proofs.Latest.{latest-joint}
@@ -91,7 +92,7 @@ module _ (job : List ℕ) (ps : List Placed) (e : placed job ≡ accepted ps) (e
   pub latest-joints-count : (id1 id2 : ℕ) (m : Hingeless) → p .command ≡ hingeless id1 id2 m → Counted earlier p id1 id2 m
   unfolding absent
   latest-joints-count id1 id2 m c =
-      let t = accepted-each job ps e earlier p later q in
+      let t = accepted-each job ps e earlier p later q .1 in
       let (s, es) = present (p .context .settings) (settings-there (p .context .settings) (rw c at (t .settings))) in
       let n = neither (missing (p .context .joints id1)) (missing (p .context .joints id2)) (rw c at (t .present)) in
       let (i, ei) = present (p .context .joints id1) (n .0) in
@@ -109,25 +110,26 @@ module _ (job : List ℕ) (ps : List Placed) (e : placed job ≡ accepted ps) (e
 
 -- ---- the words of commands already met
 
--- those of the commands that end by an offset come first
-met-words : (job : List ℕ) (ps : List Placed) → placed job ≡ accepted ps → (limit : ℕ) (m : List ℤ) → 8 * length (allRows ps) ≤ length m →
-    take (8 * length (allRows (endingBy limit ps))) (rowsAfter job m) ≡ joined (allRows (endingBy limit ps))
+-- those of the commands of the file that end by an offset come first
+met-words : (job : List ℕ) (es : List Entry) → listed job ≡ accepted es → (limit : ℕ) (m : List ℤ) → 8 * length (allRows (placedAll es)) ≤ length m →
+    take (8 * length (allRows (placedAll (endingBy limit es)))) (rowsAfter job m) ≡ joined (allRows (placedAll (endingBy limit es)))
 unfolding rowsAfter
-met-words job ps e limit m l =
-    let (later, split) = met-rows-first job ps e limit in
-    let met = allRows (endingBy limit ps) in
+met-words job es e limit m l =
+    let ps = placedAll es in
+    let (later, split) = met-rows-first job es e limit in
+    let met = allRows (placedAll (endingBy limit es)) in
     let rest = joined (allRows later) ++ drop (8 * length (allRows ps)) m in
     let front : rowsFrom (placed job) m ≡ joined met ++ rest =
-    ap (λ (j : Job). rowsFrom j m) e ∙ rw (le-leb (8 * length (allRows ps)) (length m) l) (ap (λ (x : List (List ℤ)). joined x ++ drop (8 * length (allRows ps)) m) split)
+    ap (λ (j : Job). rowsFrom j m) (placed-of job es e) ∙ rw (le-leb (8 * length (allRows ps)) (length m) l) (ap (λ (x : List (List ℤ)). joined x ++ drop (8 * length (allRows ps)) m) split)
     ∙ ap (λ (x : List ℤ). x ++ drop (8 * length (allRows ps)) m) (joined-append met (allRows later)) ∙ append-assoc (joined met) (joined (allRows later)) (drop (8 * length (allRows ps)) m) in
-    ap (take (8 * length met)) front ∙ take-at (joined met) rest (8 * length met) (joined-length met (rows-eight (endingBy limit ps)))
+    ap (take (8 * length met)) front ∙ take-at (joined met) rest (8 * length met) (joined-length met (rows-eight (placedAll (endingBy limit es))))
 
--- two accepted jobs alike in front, each run on a slice with room: the words of the commands that end in the front are the same
-pub same-met-words : (front a b : List ℕ) (ps qs : List Placed) → placed (front ++ a) ≡ accepted ps → placed (front ++ b) ≡ accepted qs →
-    (m k : List ℤ) → 8 * length (allRows ps) ≤ length m → 8 * length (allRows qs) ≤ length k →
-    take (8 * length (allRows (endingBy (length front) ps))) (rowsAfter (front ++ a) m) ≡ take (8 * length (allRows (endingBy (length front) qs))) (rowsAfter (front ++ b) k)
-same-met-words front a b ps qs e g m k l w =
-    met-words (front ++ a) ps e (length front) m l ∙ ap joined (same-met-rows front a b ps qs e g) ∙ sym (met-words (front ++ b) qs g (length front) k w)
+-- two accepted jobs alike in front, each run on a slice with room: the words of the commands of the file that end in the front are the same
+pub same-met-words : (front a b : List ℕ) (es fs : List Entry) → listed (front ++ a) ≡ accepted es → listed (front ++ b) ≡ accepted fs →
+    (m k : List ℤ) → 8 * length (allRows (placedAll es)) ≤ length m → 8 * length (allRows (placedAll fs)) ≤ length k →
+    take (8 * length (allRows (placedAll (endingBy (length front) es)))) (rowsAfter (front ++ a) m) ≡ take (8 * length (allRows (placedAll (endingBy (length front) fs)))) (rowsAfter (front ++ b) k)
+same-met-words front a b es fs e g m k l w =
+    met-words (front ++ a) es e (length front) m l ∙ ap joined (same-met-rows front a b es fs e g) ∙ sym (met-words (front ++ b) fs g (length front) k w)
 
 -- ---- refusal 7 no longer occurs
 

@@ -1,6 +1,6 @@
 -- The words of a storey in what `run` writes: words 2 to 7 come from the running values of the latest wall and the storey's operands
 -- alone, so two storeys of any two jobs that have these in common have the same. 02, No. 4. Assumes nothing.
-use mathlib.Core.Path.{_≡_, sym, _∙_, subst}
+use mathlib.Core.Path.{_≡_, sym, ap, _∙_, subst}
 use mathlib.Core.List.{List, _∷_, _++_}
 use Prim.Native.Nat.{ℕ, _*_, _≤_, _<_}
 use lib.IntN.{ℤ}
@@ -13,8 +13,9 @@ use Rattle.walls.proofs.Running.{same-storey-row}
 use Rattle.format.specs.declared.Command.the-variants.{Storey as storey}
 use Rattle.layout.proofs.Numbers.{Bytes}
 use Rattle.rows.specs.Rows.{words}
-use Rattle.job.specs.Placed.{Placed, accepted, placed, allRows}
+use Rattle.job.specs.Placed.{Placed, placedAll, accepted, placed, allRows}
 use Rattle.job.specs.LatestWall.{wallAfter, carriedRow, AtStorey}
+use Rattle.job.proofs.PlacedCases.{listed-of}
 use Rattle.job.proofs.Reached.{reached-accepted}
 use Rattle.job.proofs.LatestWall.{at-every-storey}
 use Rattle.capacity.specs.Calls.{rowsAfter}
@@ -23,7 +24,7 @@ use Rattle.capacity.proofs.RowRead.{row-read}
 
 -- ---- the words of a storey
 
--- a storey of an accepted job, with the commands before it
+-- a storey of an accepted job, given by itself or in a block, with the commands before it
 pub record StoreyOf (job : List ℕ) (earlier : List Placed) (s : Storey) : Type 0 where
   pub bytes : Bytes job
   pub commands : List Placed
@@ -35,7 +36,9 @@ pub record StoreyOf (job : List ℕ) (earlier : List Placed) (s : Storey) : Type
 
 module _ (job : List ℕ) (earlier : List Placed) (s : Storey) (t : StoreyOf job earlier s) where
   at-storey : AtStorey job earlier (t .this) s
-  at-storey = at-every-storey job (t .bytes) earlier (t .this) (t .later) (reached-accepted job (t .commands) (t .is-accepted) ∙ t .place) s (t .is-storey)
+  at-storey =
+      let (es, l, q) = listed-of job (t .commands) (t .is-accepted) in
+      at-every-storey job (t .bytes) earlier (t .this) (t .later) (ap placedAll (reached-accepted job es l) ∙ q ∙ t .place) s (t .is-storey)
 
   -- words 2 to 7, from the running values and the operands
   pub storey-words : (m : List ℤ) → 8 * length (allRows (t .commands)) ≤ length m → rowRead (rowsAfter job m) (length (allRows earlier)) ≡ carriedRow (wallAfter earlier) s

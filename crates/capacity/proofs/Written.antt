@@ -12,8 +12,9 @@ use Rattle.context.specs.Running.{roomFor}
 use Rattle.rows.specs.Rows.{rowsOf}
 use Rattle.rows.specs.Writing.{joined}
 use Rattle.rows.proofs.Laws.{Eights, words-eight, storedAll-fits}
-use Rattle.job.specs.Placed.{Placed, Job, accepted, placed, rowsAt, allRows}
+use Rattle.job.specs.Placed.{Placed, Entry, placedAll, Listing, accepted, listed, placed, rowsAt, allRows}
 use Rattle.job.specs.Walking.{Final, firstPlace, noJoints, walkFrom}
+use Rattle.job.proofs.PlacedCases.{listed-of}
 use Rattle.job.proofs.Simulation.{Matches}
 use Rattle.job.proofs.Begin.{zero-sums, begin-matches}
 
@@ -36,13 +37,17 @@ pub joined-append : (xs ys : List (List ℤ)) → joined (xs ++ ys) ≡ joined x
 joined-append [] ys = refl
 joined-append (x ∷ xs) ys = ap (λ (l : List ℤ). x ++ l) (joined-append xs ys) ∙ sym (append-assoc x (joined xs) (joined ys))
 
-memory-of : (job : List ℕ) (j : Job) (ps : List Placed) (f : Final) (m : List ℤ) → j ≡ accepted ps → Matches job j f 0 m → 8 * length (allRows ps) ≤ length m → f .memory ≡ joined (allRows ps) ++ drop (8 * length (allRows ps)) m
-memory-of job j ps f m e k h =
-    let a = subst (λ (x : Job). Matches job x f 0 m) e k in
-    a .1 ∙ storedAll-fits m 0 (allRows ps) (rows-eight ps) (omega arith) ∙ rw (zero-add (length (allRows ps)))
+memory-of : (job : List ℕ) (j : Listing) (es : List Entry) (f : Final) (m : List ℤ) → j ≡ accepted es → Matches job j f 0 m → 8 * length (allRows (placedAll es)) ≤ length m →
+    f .memory ≡ joined (allRows (placedAll es)) ++ drop (8 * length (allRows (placedAll es))) m
+memory-of job j es f m e k h =
+    let a = subst (λ (x : Listing). Matches job x f 0 m) e k in
+    a .1 ∙ storedAll-fits m 0 (allRows (placedAll es)) (rows-eight (placedAll es)) (omega arith) ∙ rw (zero-add (length (allRows (placedAll es))))
 
 pub walk-writes : (job : List ℕ) (m : List ℤ) → Bytes job → (ps : List Placed) → placed job ≡ accepted ps → 8 * length (allRows ps) ≤ length m →
     walkFrom (roomFor (length m)) 4097 job firstPlace (noJoints (replicate 768 0)) m .memory ≡ joined (allRows ps) ++ drop (8 * length (allRows ps)) m
 walk-writes job m b ps e h =
     let room = roomFor (length m) in
-    memory-of job (placed job) ps (walkFrom room 4097 job firstPlace (noJoints (replicate 768 0)) m) m e (begin-matches room (replicate 768 0) (zero-sums room) job m b refl) h
+    let (es, l, q) = listed-of job ps e in
+    let f = walkFrom room 4097 job firstPlace (noJoints (replicate 768 0)) m in
+    subst (λ (xs : List Placed). f .memory ≡ joined (allRows xs) ++ drop (8 * length (allRows xs)) m) q
+    (memory-of job (listed job) es f m l (begin-matches room (replicate 768 0) (zero-sums room) job m b refl) (rw q h))

@@ -1,6 +1,7 @@
--- Jobs and the call `write`: each command of an accepted job, and its end, is written again in the bytes that stand there, and all of
--- them make the job; the placed commands are those that are read; so of a job that was written command by command, what is checked is
--- what was written. 02, No. 2. Assumes nothing.
+-- Jobs and the calls `write` and `write_block`: each command of the file of an accepted job, and its end, is written again in the bytes
+-- that stand there, and all of them make the job; the commands of the file are those that are read; so of a job that was written
+-- command by command, what is checked is what was written. 02, No. 2 and No. 7. Assumes nothing.
+use mathlib.Core.Bool.{true}
 use mathlib.Core.List.{List, [], _∷_, _++_, append-assoc, append-nil, map}
 use mathlib.Core.Path.{_≡_, refl, sym, ap, _∙_}
 use Prim.Native.Nat.{ℕ, zero, suc, _+_, _-_, _≤_, _<_}
@@ -9,156 +10,179 @@ use native.Mathlib.Omega.{arith}
 use lib.ListN.{length, take, drop, drop-of-length-le, take-append-drop}
 use lib.Seq.{drop-cons, drop-drop, take-add}
 use borrow.Author.Tests.{ne-eqb}
-use Rattle.layout.specs.Layouts.{operandsWidth}
 use Rattle.layout.specs.Operands.{byteAt}
 use Rattle.layout.proofs.Numbers.{Bytes}
-use Rattle.format.specs.declared.Command.{Command}
 use Rattle.format.specs.declared.Command.the-variants.{Finish as finish}
-use Rattle.format.specs.Commands.{byteOf}
-use Rattle.format.specs.Types.{OfTypes}
-use Rattle.format.proofs.ReadTypes.{types-read}
-use Rattle.format.proofs.CommandRead.{byte-read}
 use Rattle.context.specs.Context.{Context, nothing}
-use Rattle.writing.specs.Bytes.{bytesOf}
-use Rattle.writing.specs.Answers.{wrote, writeOf, bytesAfter}
+use Rattle.blocks.specs.FileCommands.{FileCommand, one, block, fileByteOf, widthOf, widthAt}
+use Rattle.blocks.proofs.FileCommands.{byte-read}
+use Rattle.writing.specs.Bytes.{bytesOf, fileBytesOf}
+use Rattle.writing.specs.Answers.{fileInRange, wrote, writeFileOf, fileBytesAfter, writeOf, bytesAfter}
 use Rattle.writing.specs.Files.{AllWritable, allBytes, writtenInTurn, withOffsets, readFrom}
-use Rattle.writing.proofs.Answered.{bytes-width, end-in-range, answer-written, slice-written}
-use Rattle.writing.proofs.ReadBack.{written-again}
+use Rattle.writing.proofs.Answered.{file-bytes-width, end-in-range, answer-written, slice-written}
+use Rattle.writing.proofs.BlockReadBack.{types-read, written-again}
 use Rattle.writing.proofs.FileReadBack.{end-byte, all-in-range, written-bytes, commands-read, all-and-end}
-use Rattle.job.specs.Placed.{Placed, accepted, placed}
-use Rattle.job.specs.Earlier.{widthOf, widthsOf, contextAfter}
+use Rattle.job.specs.Placed.{contextAfter, Entry, placedAll, accepted, listed}
+use Rattle.job.specs.Earlier.{widthsOf}
+use Rattle.job.proofs.Faultless.{passed, known-at}
 use Rattle.job.proofs.Reached.{Stands}
-use Rattle.job.proofs.AcceptedLaws.{accepted-each, accepted-ends, accepted-widths}
+use Rattle.job.proofs.AcceptedLaws.{listed-each, listed-ends, listed-widths}
+use Rattle.job.proofs.Passing.{PassesAt, tests-passed}
 
--- the commands of placed commands
-abbrev pub commandsOf : List Placed → List Command
-commandsOf ps = map (λ p. p .command) ps
+-- the commands of a file's entries
+abbrev pub commandsOf : List Entry → List FileCommand
+commandsOf es = map (λ e. e .given) es
 
--- the placed commands, each with its offset
-abbrev pub offsetsOf : List Placed → List (ℕ × Command)
-offsetsOf ps = map (λ p. (p .offset, p .command)) ps
+-- each with its offset
+abbrev pub offsetsOf : List Entry → List (ℕ × FileCommand)
+offsetsOf es = map (λ e. (e .offset, e .given)) es
 
 -- one command more in front
-widths-more : (earlier : List Placed) (p : Placed) → widthsOf (earlier ++ p ∷ []) ≡ widthsOf earlier + widthOf p
-widths-more [] p = omega arith
-widths-more (x ∷ earlier) p = omega (arith, widths-more earlier p)
+widths-more : (earlier : List Entry) (x : Entry) → widthsOf (earlier ++ x ∷ []) ≡ widthsOf earlier + widthOf (x .given)
+widths-more [] x = omega arith
+widths-more (y ∷ earlier) x = omega (arith, widths-more earlier x)
 
--- behind it comes the next
-ends-at : (earlier : List Placed) (p : Placed) → widthsOf earlier + 1 + operandsWidth (byteOf (p .command)) ≡ widthsOf (earlier ++ p ∷ [])
-ends-at earlier p = omega (arith, widths-more earlier p)
+-- what passes the tests is in range
+passes-range : (count : ℕ) (h : Context) (c : FileCommand) → PassesAt count h c → fileInRange c ≡ true
+passes-range count h (one c) p = p .range
+passes-range count h (block ss) p = rw (p .count-in-range) (p .range)
 
-module _ (job : List ℕ) (ps : List Placed) (e : placed job ≡ accepted ps) where
-  -- a placed command stands in the job behind those before it, with its own byte
-  stands : (earlier : List Placed) (p : Placed) (later : List Placed) → ps ≡ earlier ++ p ∷ later → Stands job (widthsOf earlier) (contextAfter nothing earlier) p
-  stands = accepted-each job ps e
+-- ---- a command that stands in a job
 
-  same-byte : {offset : ℕ} {h : Context} {p : Placed} → Stands job offset h p → byteOf (p .command) ≡ byteAt job offset
-  same-byte {offset} s = ap byteOf (s .read) ∙ byte-read job offset (s .known-byte)
+module _ (job : List ℕ) {offset : ℕ} {h : Context} {x : Entry} (s : Stands job offset h x) where
+  same-byte : fileByteOf (x .given) ≡ byteAt job offset
+  same-byte = ap fileByteOf (s .read) ∙ byte-read job offset (known-at job offset (s .count) h (s .no-fault))
 
-  moved : (earlier : List Placed) (p : Placed) (later : List Placed) → ps ≡ earlier ++ p ∷ later → ps ≡ (earlier ++ p ∷ []) ++ later
-  moved earlier p later q = q ∙ sym (append-assoc earlier (p ∷ []) later)
+  same-width : widthAt job offset ≡ widthOf (x .given)
+  same-width = sym (ap widthOf (s .read) ∙ passed job offset (s .count) h (s .no-fault) .width)
 
-  last : (earlier : List Placed) → ps ≡ earlier ++ [] → widthsOf earlier ≡ length job - 1
-  last earlier q = omega (arith, ap widthsOf (q ∙ append-nil earlier), accepted-widths job ps e)
+  whole : offset + widthAt job offset ≤ length job
+  whole = passed job offset (s .count) h (s .no-fault) .whole
 
-  -- ---- the placed commands are those that are read
+  other : fileByteOf (x .given) ≡ 0 → ⊥
+  other z = s .other (sym same-byte ∙ z)
 
-  rest-read : (earlier later : List Placed) → ps ≡ earlier ++ later → (n : ℕ) → length later < n → readFrom n job (widthsOf earlier) ≡ offsetsOf later
+  in-range : fileInRange (x .given) ≡ true
+  in-range =
+      passes-range (s .count) h (x .given)
+      (tests-passed job offset (s .count) h (x .given) (record { byte = sym same-byte; read = sym (s .read); width = same-width; whole = whole }) other (s .no-fault))
+
+module _ (job : List ℕ) (es : List Entry) (e : listed job ≡ accepted es) where
+  stands : (earlier : List Entry) (x : Entry) (later : List Entry) → es ≡ earlier ++ x ∷ later → Stands job (widthsOf earlier) (contextAfter nothing (placedAll earlier)) x
+  stands = listed-each job es e
+
+  moved : (earlier : List Entry) (x : Entry) (later : List Entry) → es ≡ earlier ++ x ∷ later → es ≡ (earlier ++ x ∷ []) ++ later
+  moved earlier x later q = q ∙ sym (append-assoc earlier (x ∷ []) later)
+
+  last : (earlier : List Entry) → es ≡ earlier ++ [] → widthsOf earlier ≡ length job - 1
+  last earlier q = omega (arith, ap widthsOf (q ∙ append-nil earlier), listed-widths job es e)
+
+  -- ---- the commands of the file are those that are read
+
+  rest-read : (earlier later : List Entry) → es ≡ earlier ++ later → (n : ℕ) → length later < n → readFrom n job (widthsOf earlier) ≡ offsetsOf later
   unfolding readFrom
   rest-read earlier later q zero h = absurd (not-suc-le-zero h)
-  rest-read earlier [] q (suc n) h = rw (last earlier q, accepted-ends job ps e)
-  rest-read earlier (p ∷ later) q (suc n) h =
-      let s = stands earlier p later q in
+  rest-read earlier [] q (suc n) h = rw (last earlier q, listed-ends job es e)
+  rest-read earlier (x ∷ later) q (suc n) h =
+      let s = stands earlier x later q in
       rw (
-        ← same-byte s,
-        ne-eqb (byteOf (p .command)) 0 (s .other),
-        ends-at earlier p,
+        ← same-byte job s,
+        ne-eqb (fileByteOf (x .given)) 0 (other job s),
         ← s .read,
-        rest-read (earlier ++ p ∷ []) later (moved earlier p later q) n (omega arith),
+        same-width job s,
+        ← widths-more earlier x,
+        rest-read (earlier ++ x ∷ []) later (moved earlier x later q) n (omega arith),
         s .place,
       )
 
-  pub placed-read : (n : ℕ) → length ps < n → readFrom n job 0 ≡ offsetsOf ps
-  placed-read n h = rest-read [] ps refl n h
+  pub listed-read : (n : ℕ) → length es < n → readFrom n job 0 ≡ offsetsOf es
+  listed-read n h = rest-read [] es refl n h
 
   -- ---- written again
 
   module _ (b : Bytes job) where
     -- each command in the bytes that stand there
-    pub command-again : (earlier : List Placed) (p : Placed) (later : List Placed) → ps ≡ earlier ++ p ∷ later → bytesOf (p .command) ≡ take (widthOf p) (drop (p .offset) job)
-    command-again earlier p later q =
-        let s = stands earlier p later q in
-        rw (s .place, same-byte s) (ap bytesOf (s .read) ∙ written-again job (widthsOf earlier) b (s .known-byte) (s .whole))
+    pub command-again : (earlier : List Entry) (x : Entry) (later : List Entry) → es ≡ earlier ++ x ∷ later → fileBytesOf (x .given) ≡ take (widthOf (x .given)) (drop (x .offset) job)
+    command-again earlier x later q =
+        let s = stands earlier x later q in
+        rw (s .place, ← same-width job s) (ap fileBytesOf (s .read) ∙ written-again job b (widthsOf earlier) (whole job s) (known-at job (widthsOf earlier) (s .count) _ (s .no-fault)))
 
     -- the end too
     pub end-again : bytesOf finish ≡ drop (length job - 1) job
     end-again =
-        let w = accepted-widths job ps e in
+        let w = listed-widths job es e in
         let inside : length job - 1 < length job = omega arith in
         let behind : length job ≤ suc (length job - 1) = omega arith in
-        rw (drop-cons job (length job - 1) 0 inside, accepted-ends job ps e, drop-of-length-le job behind) end-byte
+        rw (drop-cons job (length job - 1) 0 inside, listed-ends job es e, drop-of-length-le job behind) end-byte
 
-    rest-again : (earlier later : List Placed) → ps ≡ earlier ++ later → allBytes (commandsOf later) ≡ take (widthsOf later) (drop (widthsOf earlier) job)
+    rest-again : (earlier later : List Entry) → es ≡ earlier ++ later → allBytes (commandsOf later) ≡ take (widthsOf later) (drop (widthsOf earlier) job)
     unfolding allBytes
     rest-again earlier [] q = refl
-    rest-again earlier (p ∷ later) q =
-        let s = stands earlier p later q in
+    rest-again earlier (x ∷ later) q =
+        let s = stands earlier x later q in
         rw (
-          command-again earlier p later q,
+          command-again earlier x later q,
           s .place,
-          rest-again (earlier ++ p ∷ []) later (moved earlier p later q),
-          widths-more earlier p,
-          ← drop-drop (widthOf p) (widthsOf earlier) job,
+          rest-again (earlier ++ x ∷ []) later (moved earlier x later q),
+          widths-more earlier x,
+          ← drop-drop (widthOf (x .given)) (widthsOf earlier) job,
         )
-        (sym (take-add (widthOf p) (widthsOf later) (drop (widthsOf earlier) job)))
+        (sym (take-add (widthOf (x .given)) (widthsOf later) (drop (widthsOf earlier) job)))
 
     -- all of them, one after the other, are the job
-    pub job-again : allBytes (commandsOf ps ++ finish ∷ []) ≡ job
+    pub job-again : allBytes (commandsOf es ++ one finish ∷ []) ≡ job
     job-again =
-        let w : widthsOf ps ≡ length job - 1 = omega (arith, accepted-widths job ps e) in
-        rw (all-and-end (commandsOf ps), rest-again [] ps refl, end-again, w) (take-append-drop (length job - 1) job)
+        let w : widthsOf es ≡ length job - 1 = omega (arith, listed-widths job es e) in
+        rw (all-and-end (commandsOf es), rest-again [] es refl, end-again, w) (take-append-drop (length job - 1) job)
 
-    rest-writable : (earlier later : List Placed) → ps ≡ earlier ++ later → AllWritable (commandsOf later)
+    rest-writable : (earlier later : List Entry) → es ≡ earlier ++ later → AllWritable (commandsOf later)
     rest-writable earlier [] q = tt
-    rest-writable earlier (p ∷ later) q =
-        let s = stands earlier p later q in
-        let types : OfTypes (p .command) = rw (s .read) (types-read job (widthsOf earlier) b) in
-        (record { types = types; range = s .range; other = s .other }, rest-writable (earlier ++ p ∷ []) later (moved earlier p later q))
+    rest-writable earlier (x ∷ later) q =
+        let s = stands earlier x later q in
+        (
+          record { types = rw (s .read) (types-read job b (widthsOf earlier)); range = in-range job s; other = other job s },
+          rest-writable (earlier ++ x ∷ []) later (moved earlier x later q),
+        )
 
-    -- ---- the same of the call, on a slice with room
+    -- each could have been written
+    pub all-writable : AllWritable (commandsOf es)
+    all-writable = rest-writable [] es refl
+
+    -- ---- the same of the calls, on a slice with room
 
     -- the commands and the end, each written behind the bytes that the call before it reported
-    pub job-written-again : (before : List ℕ) → length job ≤ length before → writtenInTurn (commandsOf ps ++ finish ∷ []) before ≡ job ++ drop (length job) before
+    pub job-written-again : (before : List ℕ) → length job ≤ length before → writtenInTurn (commandsOf es ++ one finish ∷ []) before ≡ job ++ drop (length job) before
     job-written-again before room =
-        let h : length (allBytes (commandsOf ps ++ finish ∷ [])) ≤ length before = rw job-again room in
-        written-bytes (commandsOf ps ++ finish ∷ []) before (all-in-range (commandsOf ps) (rest-writable [] ps refl)) h
+        let h : length (allBytes (commandsOf es ++ one finish ∷ [])) ≤ length before = rw job-again room in
+        written-bytes (commandsOf es ++ one finish ∷ []) before (all-in-range (commandsOf es) all-writable) h
         ∙ ap (λ (l : List ℕ). l ++ drop (length l) before) job-again
 
     -- one of them, wherever it is written
-    pub write-again : (earlier : List Placed) (p : Placed) (later : List Placed) → ps ≡ earlier ++ p ∷ later → (before : List ℕ) → widthOf p ≤ length before → (writeOf (p .command) (length before) ≡ wrote (widthOf p)) × (bytesAfter (p .command) before ≡ take (widthOf p) (drop (p .offset) job) ++ drop (widthOf p) before)
-    write-again earlier p later q before room =
-        let r = stands earlier p later q .range in
-        let w = bytes-width (p .command) in
-        let h : length (bytesOf (p .command)) ≤ length before = omega arith in (
-          answer-written (p .command) r (length before) h ∙ ap wrote w,
-          slice-written (p .command) r before h ∙ rw (w, command-again earlier p later q),
+    pub write-again : (earlier : List Entry) (x : Entry) (later : List Entry) → es ≡ earlier ++ x ∷ later → (before : List ℕ) → widthOf (x .given) ≤ length before →
+        (writeFileOf (x .given) (length before) ≡ wrote (widthOf (x .given))) × (fileBytesAfter (x .given) before ≡ take (widthOf (x .given)) (drop (x .offset) job) ++ drop (widthOf (x .given)) before)
+    write-again earlier x later q before room =
+        let r = in-range job (stands earlier x later q) in
+        let w = file-bytes-width (x .given) in
+        let h : length (fileBytesOf (x .given)) ≤ length before = omega arith in (
+          answer-written (x .given) r (length before) h ∙ ap wrote w,
+          slice-written (x .given) r before h ∙ rw (w, command-again earlier x later q),
         )
 
     pub write-end-again : (before : List ℕ) → 1 ≤ length before → (writeOf finish (length before) ≡ wrote 1) × (bytesAfter finish before ≡ drop (length job - 1) job ++ drop 1 before)
     write-end-again before room =
         let w : length (bytesOf finish) ≡ 1 = ap length end-byte in
         let h : length (bytesOf finish) ≤ length before = omega arith in (
-          answer-written finish end-in-range (length before) h ∙ ap wrote w,
-          slice-written finish end-in-range before h ∙ rw (w, end-again),
+          answer-written (one finish) end-in-range (length before) h ∙ ap wrote w,
+          slice-written (one finish) end-in-range before h ∙ rw (w, end-again),
         )
 
 -- ---- a job that was written command by command
 
--- where it is accepted, its placed commands are those that were written, at their offsets
-pub written-checked : (cs : List Command) → AllWritable cs → (ps : List Placed) → placed (allBytes (cs ++ finish ∷ [])) ≡ accepted ps → offsetsOf ps ≡ withOffsets 0 cs
-written-checked cs w ps e =
-    let n = suc (length ps + length cs) in
-    let file : [] ++ (allBytes cs ++ (bytesOf finish ++ [])) ≡ allBytes (cs ++ finish ∷ []) = rw (append-nil (bytesOf finish)) (sym (all-and-end cs)) in
-    sym (placed-read (allBytes (cs ++ finish ∷ [])) ps e n (omega arith))
+-- where it is accepted, the commands of the file are those that were written, at their offsets
+pub written-checked : (cs : List FileCommand) → AllWritable cs → (es : List Entry) → listed (allBytes (cs ++ one finish ∷ [])) ≡ accepted es → offsetsOf es ≡ withOffsets 0 cs
+written-checked cs w es e =
+    let n = suc (length es + length cs) in
+    let file : [] ++ (allBytes cs ++ (bytesOf finish ++ [])) ≡ allBytes (cs ++ one finish ∷ []) = rw (append-nil (bytesOf finish)) (sym (all-and-end cs)) in
+    sym (listed-read (allBytes (cs ++ one finish ∷ [])) es e n (omega arith))
     ∙ ap (λ (f : List ℕ). readFrom n f 0) (sym file)
     ∙ commands-read [] cs [] w n (omega arith)

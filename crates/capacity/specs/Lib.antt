@@ -1,4 +1,5 @@
--- The calls, demand 3 for a whole job, and where the cap governs. Assumes nothing.
+-- The calls, demand 3 for a whole job, where the cap governs, and what a block stands for. Assumes nothing.
 pub mod Calls
 pub mod DemandThree
 pub mod Governs
+pub mod Singly

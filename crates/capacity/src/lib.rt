@@ -1,4 +1,5 @@
-// The calls: size, fault, run, total, take-down, write and page. None has a `requires`. 01, "Calls"; 02, No. 2 and No. 3.
+// The calls: size, fault, run, total, take-down, write, write_block and page. None has a `requires`. 01, "Calls"; 02, No. 2, No. 3
+// and No. 7.
 // The papers leave no value of these calls free: each answer, each lent word and each lent byte is promised by equation.
 use format::Command;
 use job::FaultAnswer;
@@ -18,7 +19,9 @@ ghost use Rattle.soil.specs.Taken.{takeDown};
 ghost use Rattle.totals.specs.Answers.{totalAnswer};
 ghost use Rattle.totals.specs.Total.{totalOf};
 ghost use Rattle.job.specs.Answers.{rowCountAnswer, sizeOf, faultOf};
+ghost use Rattle.blocks.specs.FileCommands.{fileCommandAt};
 ghost use Rattle.writing.specs.Answers.{answerOf as writeAnswer, writeOf, bytesAfter};
+ghost use Rattle.writing.specs.BlockGiven.{blockOf, writeBlockOf, blockBytesAfter};
 ghost use Rattle.printing.specs.Answers.{pageAnswer, pageOf, bytesAfter as pageAfter};
 ghost use Rattle.capacity.specs.Calls.{runAnswer, runOf, rowsAfter, Writes};
 ghost use Rattle.capacity.specs.DemandThree.{DemandThree};
@@ -68,6 +71,15 @@ pub fn write(command: Command, bytes: &mut [u8]) -> Written
     ensures back { λ r. ⌜ (writeAnswer r .number ≡ 0 → commandAt (now (bytes .exit)) 0 ≡ command) ⌝ }
 {
     writing::write(command, bytes)
+}
+
+// The bytes of a block of so many storeys, given as words, six a set, written from the slice's first byte on.
+pub fn write_block(count: u32, sets: &[u32], bytes: &mut [u8]) -> Written
+    ensures answer { λ r. ⌜ writeAnswer r ≡ writeBlockOf count (now (sets .entry)) (length (now (bytes .entry))) ⌝ }
+    ensures bytes { λ r. ⌜ now (bytes .exit) ≡ blockBytesAfter count (now (sets .entry)) (now (bytes .entry)) ⌝ }
+    ensures back { λ r. ⌜ (writeAnswer r .number ≡ 0 → fileCommandAt (now (bytes .exit)) 0 ≡ blockOf count (now (sets .entry))) ⌝ }
+{
+    writing::write_block(count, sets, bytes)
 }
 
 // The page of the first n rows, written from the slice's first byte on.

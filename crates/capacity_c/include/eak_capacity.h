@@ -8,11 +8,12 @@
  *
  * Lent memory. A pointer and a number of elements, which the caller owns; the call reads or writes there during the call and
  * keeps no pointer. A call changes no lent memory beyond what it says. `rows` of eak_run must not overlap `job`, `bytes` of eak_page
- * must not overlap `rows`. Words (int64_t) are aligned to 8 bytes. A size in bytes is at most PTRDIFF_MAX.
- * A pointer is never NULL, also where the number of elements is 0: pass the address of any object then, of an int64_t for `rows`.
- * Nothing is read or written there. (A vector without elements may have NULL as its address: test for it.)
- * These are the only things asked of a caller: every byte of a job, every word of a row, every number of rows and every member of a
- * struct may have any value.
+ * must not overlap `rows`, `bytes` of eak_write_block must not overlap `sets`. Words are aligned: of rows (int64_t) to 8 bytes, of sets
+ * (uint32_t) to 4. A size in bytes is at most PTRDIFF_MAX.
+ * A pointer is never NULL, also where the number of elements is 0: pass the address of any object then, of an int64_t for `rows`, of a
+ * uint32_t for `sets`. Nothing is read or written there. (A vector without elements may have NULL as its address: test for it.)
+ * These are the only things asked of a caller: every byte of a job, every word of a row or a set, every number of rows, count and member
+ * of a struct may have any value.
  *
  * Refusals. No call prints, aborts or sets errno: an answer has the number of the refusal, 0 where there is none. A refusal carries
  * offset 0 where no other is stated. docs/FORMAT.md has the causes and the remedies:
@@ -20,11 +21,11 @@
  *    2  unknown command
  *    3  bytes after end, at the first
  *    4  first command not settings, or settings again
- *    5  operand out of range, in a job and from the eak_write calls; from eak_total a verdict outside 0 to 255; from eak_take_down
- *       kind or value out of range
- *    6  joint id not yet given, storey without wall base, footing without soil
+ *    5  operand out of range, in a job and from the eak_write calls; from eak_write_block also too few words; from eak_total a verdict
+ *       outside 0 to 255; from eak_take_down kind or value out of range
+ *    6  joint id not yet given, storey or block without wall base, footing without soil
  *    7  no longer given (before version 1.1.0: joint id given twice; a joint given again now replaces the earlier one)
- *    8  a 4,097th command, end not counted
+ *    8  a 4,097th command, end not counted; a block that would pass 4,096, as it counts as many commands as it has sets
  *    9  too few words for the rows
  *   11  too few bytes: for the command, from the eak_write calls; for the page, from eak_page (10 is the programs': input too long)
  *   12  a value too wide for its column, from eak_page; no row that eak_run writes has one
@@ -40,26 +41,34 @@
 extern "C" {
 #endif
 
-/* The version that this header belongs to, 3.0.0: 10,000 times the major number, 100 times the minor one, and the patch. With the major
+/* The version that this header belongs to, 3.1.0: 10,000 times the major number, 100 times the minor one, and the patch. With the major
  * number a call is changed or removed, or words of the rows of accepted jobs change; with the minor one a call is added, or jobs are
  * accepted that were refused. eak_version answers the library's. */
-#define EAK_VERSION 30000
+#define EAK_VERSION 30100
 
 /* The words of a row. Word 0 is the command's offset in the job, word 1 its byte, word 7 the verdict, 0 for passed; docs/FORMAT.md has
- * the others. From version 2.0.0 on, rows tell where the cap q holds the design shear: word 6 of a column and of a wall base, word 5
- * (plus) and word 6 (minus) of a beam are 1 where the cap is strictly the smaller, or the ME of a wall base is 0, else 0. Before, these
- * words were 0. A 1 says that no greater resistance changes that shear; a 0 says that the shear is that of the resistances.
+ * the others. A storey of a block has the offset of its set's first byte in word 0 and 7, the byte of a storey, in word 1.
+ * From version 2.0.0 on, rows tell where the cap q holds the design shear: word 6 of a column and of a wall base, word 5 (plus) and
+ * word 6 (minus) of a beam are 1 where the cap is strictly the smaller, or the ME of a wall base is 0, else 0. Before, these words were
+ * 0. A 1 says that no greater resistance changes that shear; a 0 says that the shear is that of the resistances.
  * From version 3.0.0 on, the passive thrust P of a footing counts only where bit 2 of its flags (value 4) declares full contact with
  * undisturbed or compacted ground. A job written before, whose flags are 0 to 3, loses two fifths of P in word 6 of its footing rows,
- * and may get bit 8 by it, until its author adds 4 to the flags: docs/FORMAT.md, "What changed for authors of old files". */
+ * and may get bit 8 by it, until its author adds 4 to the flags: docs/FORMAT.md, "What changed for authors of old files".
+ * From version 3.1.0 on, a job may have storeys in blocks, command 0B; before, this byte was refusal 2. Other jobs are as they were. */
 #define EAK_ROW_WORDS 8
 
-/* No job has more rows: 4,096 commands at most, of which the settings and a soil write none and 4,094 footings write two each. A
- * slice of EAK_MOST_ROWS times EAK_ROW_WORDS words is enough for every job. */
+/* No job has more rows: 4,096 commands at most, of which the settings and a soil write none and 4,094 footings write two each; a block
+ * writes a row for each command that it counts as. A slice of EAK_MOST_ROWS times EAK_ROW_WORDS words is enough for every job. */
 #define EAK_MOST_ROWS 8188
 
-/* No command has more bytes: a footing has 58. With so much room no write is refused with 11. */
+/* No command but a block has more bytes: a footing has 58. With so much room no write but a block's is refused with 11. */
 #define EAK_COMMAND_BYTES 58
+
+/* The most sets of a block, the words of a set for eak_write_block, and the bytes of a block of so many sets; `count` is an expression
+ * from 1 to EAK_MOST_SETS, and EAK_BLOCK_BYTES(EAK_MOST_SETS), 1,538, suffice for every block. */
+#define EAK_MOST_SETS 64
+#define EAK_SET_WORDS 6
+#define EAK_BLOCK_BYTES(count) (2 + 24 * (size_t)(count))
 
 /* The bytes of the page of n rows: a line has 81, and a form feed stands after every 50 lines that a line follows. It is for the room
  * of eak_page, also as the size of an array: uint8_t page[EAK_PAGE_BYTES(1024)]. n is an expression without effects, from 0 up, and
@@ -82,7 +91,8 @@ struct eak_fault_answer {
     uint32_t number;  /* as eak_size answers it: the refusal, 0 if accepted */
     size_t offset;    /* as eak_size answers it: the byte offset of the refusal, 0 if accepted */
     uint32_t command; /* the byte at that offset, for 3 the first byte after the end; 0 if accepted and where no byte is left */
-    uint32_t operand; /* for 5 the operand at fault, counted from 0 in the order of docs/FORMAT.md; else 0 */
+    uint32_t operand; /* for 5 the operand at fault, counted from 0 in the order of docs/FORMAT.md, in a block its count as 0 and operand
+                       * j of set i, both counted from 0, as 1 + 6 i + j; else 0 */
 };
 
 /* The answer of eak_total. */
@@ -225,6 +235,8 @@ struct eak_detail {
     uint32_t lap;   /* 1 where the longitudinal bars are lapped here, else 0 */
 };
 
+/* 0B block: storeys of the latest wall, one behind the other. It has no struct: eak_write_block takes a count and words. */
+
 /* The library's version; EAK_VERSION is the header's. */
 uint32_t eak_version(void);
 
@@ -232,7 +244,8 @@ uint32_t eak_version(void);
 struct eak_job_answer eak_size(const uint8_t *job, size_t job_bytes);
 
 /* The refusal of eak_size, with the command and, for 5, the operand. Reads the job. The operand is the first one outside its own
- * range; where each is within it, J of a storey whose J is above J0, or the value of a soil that is not allowed for its kind. */
+ * range; where each is within it, J of a storey whose J is above J0, or the value of a soil that is not allowed for its kind. In a
+ * block it is the count, or that of the first set at fault, found as in a storey. */
 struct eak_fault_answer eak_fault(const uint8_t *job, size_t job_bytes);
 
 /* Writes the rows of a job, EAK_ROW_WORDS words each, from rows[0] on, and answers their number. `row_words` counts words, not
@@ -269,6 +282,19 @@ struct eak_write_answer eak_write_soil(struct eak_soil values, uint8_t *bytes, s
 struct eak_write_answer eak_write_footing(struct eak_footing values, uint8_t *bytes, size_t room);
 struct eak_write_answer eak_write_detail(struct eak_detail values, uint8_t *bytes, size_t room);
 struct eak_write_answer eak_write_end(uint8_t *bytes, size_t room);
+
+/* Writes a block of `count` storeys like the calls above. Their values stand in `sets`, a stretch of `words` words: EAK_SET_WORDS a
+ * storey, in the order of struct eak_storey: me, ve, j, j0, vr, ms. `words` counts words, not sets or bytes. Reads the sets; words after
+ * the first EAK_SET_WORDS times `count` are not looked at. It tries
+ *    5  `count` is 0 or above EAK_MOST_SETS; there are fewer words; a value of a set is out of range, or its J is above J0
+ *   11  `room` is less than EAK_BLOCK_BYTES(count); exactly as many suffice
+ * in this order, 5 whatever the room is; in a refusal every byte stays as it was.
+ *    uint32_t sets[2 * EAK_SET_WORDS] = {3100000, 1020000, 133333333, 133333333, 3000000, 8500000,
+ *                                        2100000, 880000, 133333333, 133333333, 2500000, 6500000};
+ *    answer = eak_write_block(2, sets, 2 * EAK_SET_WORDS, job + n, room - n);
+ *    n += answer.bytes;
+ */
+struct eak_write_answer eak_write_block(uint32_t count, const uint32_t *sets, size_t words, uint8_t *bytes, size_t room);
 
 /* Prints the first n rows, in a stretch of `row_words` words, as a page from bytes[0] on, and answers its length, which n alone fixes:
  * EAK_PAGE_BYTES(n). Each row is a line of 80 characters and a line feed: word 0 right-aligned in 7 characters, word 1 in 3, words 2

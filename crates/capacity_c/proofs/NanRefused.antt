@@ -10,6 +10,7 @@ use Rattle.soil.specs.Kinds.{known, valueAllowed}
 use Rattle.soil.specs.Reading.{soilAllowed}
 use Rattle.layout.specs.Layouts.{formsOf}
 use Rattle.format.specs.Commands.{operandsOf, related, allInRange, inRange}
+use Rattle.blocks.specs.FileCommands.{one}
 use Rattle.writing.specs.Answers.{refusedWith, writeOf, bytesAfter}
 use Rattle.writing.proofs.Answered.{answer-5, slice-5}
 use Rattle.capacity_c.specs.declared.writes.SoilOperands.{SoilOperands}
@@ -29,7 +30,7 @@ outside v e = rw (bits-not-allowed (v .kind) (v .value) e) (and-false (allInRang
 
 module _ (v : SoilOperands) (e : v .value ≡ nan) where
   pub nan-refused : (room : ℕ) → writeOf (soilCommand v) room ≡ refusedWith 5
-  nan-refused room = answer-5 (soilCommand v) (outside v e) room
+  nan-refused room = answer-5 (one (soilCommand v)) (outside v e) room
 
   pub nan-unwritten : (before : List ℕ) → bytesAfter (soilCommand v) before ≡ before
-  nan-unwritten before = slice-5 (soilCommand v) (outside v e) before
+  nan-unwritten before = slice-5 (one (soilCommand v)) (outside v e) before

@@ -1,13 +1,12 @@
 -- The commands of the values that a program in another language gives, and what it gets back: an id above 255, which no command can
--- hold, is refusal 5 with every byte as lent. 02, No. 2. Assumes nothing.
+-- hold, makes none. 02, No. 2. Assumes nothing.
 use mathlib.Core.Bool.{cond, _&&_}
-use mathlib.Core.List.{List}
 use mathlib.Core.Option.{Option, none, some}
-use Prim.Native.Nat.{ℕ}
 use lib.Dec.{leb}
 use lib.Ieee.{binary32, toBits}
 use Rattle.format.specs.declared.Command.{Command}
 use Rattle.format.specs.declared.Command.the-variants.{Settings as settings, Joint as joint, Column as column, Beam as beam, Hingeless as hingeless, WallBase as wallBase, Storey as storey, Soil as soil, Footing as footing, Detail as detail}
+use Rattle.blocks.specs.FileCommands.{FileCommand, one}
 use Rattle.writing.specs.Answers as writing
 use Rattle.capacity_c.specs.declared.writes.WriteAnswer.{WriteAnswer}
 use Rattle.capacity_c.specs.declared.writes.SettingsOperands.{SettingsOperands}
@@ -31,10 +30,10 @@ writeAnswer a = record { number = a .number; offset = a .offset; bytes = a .byte
 abbrev pub settingsCommand : SettingsOperands → Command
 settingsCommand v = settings (record { behaviour = v .q; joints = v .gj; foundations = v .gf })
 
-abbrev pub jointCommand : JointOperands → Option Command
+abbrev pub jointCommand : JointOperands → Option FileCommand
 jointCommand v =
     cond (leb (v .id) 255)
-    (some (joint (v .id) (record { beams = v .rb; columns = v .rc; seismic = v .eb })))
+    (some (one (joint (v .id) (record { beams = v .rb; columns = v .rc; seismic = v .eb }))))
     none
 
 abbrev pub columnCommand : ColumnOperands → Command
@@ -62,11 +61,11 @@ beamCommand v =
       strength = v .vr;
     })
 
-abbrev pub hingelessCommand : HingelessOperands → Option Command
+abbrev pub hingelessCommand : HingelessOperands → Option FileCommand
 hingelessCommand v =
     cond (leb (v .id1) 255 && leb (v .id2) 255)
-    (some (hingeless (v .id1) (v .id2)
-    (record { length = v .length; moment1 = v .me1; moment2 = v .me2; nonseismic = v .v0; strength = v .vr })))
+    (some (one (hingeless (v .id1) (v .id2)
+    (record { length = v .length; moment1 = v .me1; moment2 = v .me2; nonseismic = v .v0; strength = v .vr }))))
     none
 
 abbrev pub wallBaseCommand : WallBaseOperands → Command
@@ -117,13 +116,3 @@ footingCommand v =
 
 abbrev pub detailCommand : DetailOperands → Command
 detailCommand v = detail (record { place = v .place; ultimate = v .xu; yielded = v .xy; ductility = v .mu; lap = v .lap })
-
--- ---- what is answered, and what the slice holds then, where there may be no command
-
-abbrev pub writeGiven : Option Command → ℕ → writing.WriteAnswer
-writeGiven none room = writing.refusedWith 5
-writeGiven (some c) room = writing.writeOf c room
-
-abbrev pub bytesGiven : Option Command → List ℕ → List ℕ
-bytesGiven none before = before
-bytesGiven (some c) before = writing.bytesAfter c before

@@ -1,5 +1,6 @@
 // The calls that write a job's commands, for programs in other languages: the values of a command as a struct, its bytes into the lent
-// slice. None has a `requires`, and each contract is that of `writing::write` for the command of the values. 02, No. 2.
+// slice. None has a `requires`, and each contract is that of `writing::write` for the command of the values, or that of
+// `writing::write_block`. 02, No. 2 and No. 7.
 use coefficient::Settings;
 use footing::Footing;
 use format::SoilGiven;
@@ -15,8 +16,9 @@ ghost use mathlib.Core.Path.{_≡_};
 ghost use lib.ListN.{length};
 ghost use lib.Ieee.{binary32, toBits};
 ghost use Rattle.format.specs.declared.Command.the-variants.{Finish as finish};
-ghost use Rattle.writing.specs.Answers.{answerOf, refusedWith, writeOf, bytesAfter};
-ghost use Rattle.capacity_c.specs.Commands.{writeAnswer, writeGiven, bytesGiven, settingsCommand, jointCommand, columnCommand, beamCommand, hingelessCommand, wallBaseCommand, storeyCommand, soilCommand, footingCommand, detailCommand};
+ghost use Rattle.writing.specs.Answers.{answerOf, refusedWith, writeOf, bytesAfter, writeGiven, bytesGiven};
+ghost use Rattle.writing.specs.BlockGiven.{writeBlockOf, blockBytesAfter};
+ghost use Rattle.capacity_c.specs.Commands.{writeAnswer, settingsCommand, jointCommand, columnCommand, beamCommand, hingelessCommand, wallBaseCommand, storeyCommand, soilCommand, footingCommand, detailCommand};
 
 // The answer of the calls that write.
 #[repr(C)]
@@ -360,6 +362,15 @@ pub extern "C" fn eak_write_detail(values: DetailOperands, bytes: &mut [u8]) -> 
         lap: values.lap,
     };
     answered(writing::write_detail(detail, bytes))
+}
+
+// 0B block of storeys: `count` sets of six words, each set in the order of `StoreyOperands`.
+#[no_mangle]
+pub extern "C" fn eak_write_block(count: u32, sets: &[u32], bytes: &mut [u8]) -> WriteAnswer
+    ensures answer { λ r. ⌜ r ≡ writeAnswer (writeBlockOf count (now (sets .entry)) (length (now (bytes .entry)))) ⌝ }
+    ensures bytes { λ r. ⌜ now (bytes .exit) ≡ blockBytesAfter count (now (sets .entry)) (now (bytes .entry)) ⌝ }
+{
+    answered(writing::write_block(count, sets, bytes))
 }
 
 // 00 end, after the last command of a job.

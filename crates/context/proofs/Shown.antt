@@ -73,7 +73,7 @@ pub present : {A : Type 0} (o : Option A) → missing o ≡ false → (a : A) ×
 present none e = absurd (differ e)
 present (some a) e = (a, refl)
 
-missing-flag : {A : Type 0} (b : Bool) (o : Option A) → given o ≡ b → missing o ≡ not b
+pub missing-flag : {A : Type 0} (b : Bool) (o : Option A) → given o ≡ b → missing o ≡ not b
 missing-flag b o e = missing-is o ∙ ap not e
 
 module _ (room : Bool) (t : State) (table : JointTable) (h : Context) (s : Shows room t table h) where

@@ -11,13 +11,10 @@ use borrow.Author.Tests.{lt-ltb, le-ltb}
 use Rattle.layout.specs.declared.Form.{Form}
 use Rattle.layout.specs.declared.Form.the-variants.{Id}
 use Rattle.layout.specs.Forms.{formInRange}
-use Rattle.layout.specs.Layouts.{known, formsOf}
-use Rattle.layout.specs.Operands.{byteAt, operandsAt}
-use Rattle.layout.proofs.Numbers.{Bytes}
-use Rattle.layout.proofs.OperandsRead.{at, operands-length}
-use Rattle.format.specs.Commands.{firstOutside, relationNames, operandAtFault}
-use Rattle.format.specs.Reading.{commandAt}
-use Rattle.format.proofs.CommandRead.{byte-read, operands-read}
+use Rattle.layout.specs.Layouts.{formsOf}
+use Rattle.layout.proofs.OperandsRead.{at}
+use Rattle.format.specs.declared.Command.{Command}
+use Rattle.format.specs.Commands.{byteOf, operandsOf, firstOutside, relationNames, operandAtFault}
 
 -- each of the first i operands is in its range
 abbrev pub InBefore : List Form → List ℕ → ℕ → Type 0
@@ -43,16 +40,12 @@ first-none (f ∷ fs) [] e b = absurd (none (length fs) e)
     none n e = omega arith
 first-none (f ∷ fs) (v ∷ vs) e b = rw (b 0 (omega arith)) (ap suc (first-none fs vs (omega arith) (λ k m. b (suc k) (omega arith))))
 
-module _ (job : List ℕ) (start : ℕ) (b : Bytes job) (known-byte : known (byteAt job start) ≡ true) where
-  abbrev byte : ℕ
-  byte = byteAt job start
-
-  pub operand-found : (i : ℕ) → i < length (formsOf byte) → InBefore (formsOf byte) (operandsAt job start) i → formInRange (getD (formsOf byte) i Id) (at (operandsAt job start) i) ≡ false → operandAtFault (commandAt job start) ≡ i
+-- a command with this byte and these operands
+module _ (c : Command) (byte : ℕ) (vs : List ℕ) (e : byteOf c ≡ byte) (o : operandsOf c ≡ vs) (n : length vs ≡ length (formsOf byte)) where
+  pub operand-found : (i : ℕ) → i < length (formsOf byte) → InBefore (formsOf byte) vs i → formInRange (getD (formsOf byte) i Id) (at vs i) ≡ false → operandAtFault c ≡ i
   unfolding operandAtFault
-  operand-found i l h f =
-      rw (byte-read job start known-byte, operands-read job start b, first-is (formsOf byte) (operandsAt job start) i (operands-length job start) l h f, lt-ltb i (length (formsOf byte)) l)
+  operand-found i l h f = rw (e, o, first-is (formsOf byte) vs i n l h f, lt-ltb i (length (formsOf byte)) l)
 
-  pub relation-found : InBefore (formsOf byte) (operandsAt job start) (length (formsOf byte)) → operandAtFault (commandAt job start) ≡ relationNames byte
+  pub relation-found : InBefore (formsOf byte) vs (length (formsOf byte)) → operandAtFault c ≡ relationNames byte
   unfolding operandAtFault
-  relation-found h =
-      rw (byte-read job start known-byte, operands-read job start b, first-none (formsOf byte) (operandsAt job start) (operands-length job start) h, le-ltb (length (formsOf byte)) (length (formsOf byte)) (omega arith))
+  relation-found h = rw (e, o, first-none (formsOf byte) vs n h, le-ltb (length (formsOf byte)) (length (formsOf byte)) (omega arith))

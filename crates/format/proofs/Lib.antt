@@ -6,4 +6,5 @@ pub mod RangeTest
 pub mod CommandRanges
 pub mod CommandRead
 pub mod AtFault
+pub mod Scan
 pub mod ReadTypes

@@ -125,7 +125,7 @@ fn wall_base_at(job: &[u8], at: usize) -> WallBase
     }
 }
 
-fn storey_at(job: &[u8], at: usize) -> Storey
+pub fn storey_at(job: &[u8], at: usize) -> Storey
     requires { ⌜ at + 24 ≤ length (now job) ⌝ }
     ensures { λ r. ⌜ r ≡ storeyOf (operand 7 (now (job .entry)) at) ⌝ }
 {

@@ -13,7 +13,7 @@ use Rattle.context.specs.Context.{nothing}
 use Rattle.context.specs.Running.{roomFor, startState, jointGiven, SoundSums}
 use Rattle.context.proofs.Laws.{start-sound}
 use Rattle.context.proofs.Shown.{Shows}
-use Rattle.job.specs.Placed.{Job, refused, accepted, placed}
+use Rattle.job.specs.Placed.{Listing, refused, accepted, listed, placedOf, placed}
 use Rattle.job.specs.Answers.{rowsAnswer, sizeFrom, sizeOf, faultIn, faultOf}
 use Rattle.job.specs.Walking.{Final, firstPlace, noJoints, walkFrom, WalkAsks, walkedAnswer, walkedFault}
 use Rattle.job.proofs.OneCommand.{Going}
@@ -35,7 +35,7 @@ no-sums = record { size = λ r. absurd (differ r); entries = λ i. lit≤ tt }
     differ e = let z : _≡_ {A = ℕ} 0 1 = cc in omega arith
 
 module _ (room : Bool) (sums : List ℕ) (s : SoundSums room sums) where
-  begin-shows : Shows room startState (noJoints sums) nothing
+  pub begin-shows : Shows room startState (noJoints sums) nothing
   unfolding startState
   begin-shows =
       record {
@@ -60,26 +60,26 @@ module _ (room : Bool) (sums : List ℕ) (s : SoundSums room sums) where
 
   pub begin-going : (job : List ℕ) (memory : List ℤ) → Bytes job → roomFor (length memory) ≡ room → Going room 4097 job firstPlace (noJoints sums) memory nothing
   unfolding firstPlace
-  begin-going job memory b r = record { bytes = b; shows = begin-shows; room-is = r; left = refl; count = omega arith; offset = omega arith }
+  begin-going job memory b r = record { bytes = b; shows = begin-shows; room-is = r; left = omega arith; count = omega arith; offset = omega arith }
 
-  pub begin-matches : (job : List ℕ) (memory : List ℤ) → Bytes job → roomFor (length memory) ≡ room → Matches job (placed job) (walkFrom room 4097 job firstPlace (noJoints sums) memory) 0 memory
-  unfolding firstPlace placed
+  pub begin-matches : (job : List ℕ) (memory : List ℤ) → Bytes job → roomFor (length memory) ≡ room → Matches job (listed job) (walkFrom room 4097 job firstPlace (noJoints sums) memory) 0 memory
+  unfolding firstPlace listed
   begin-matches job memory b r =
       simulates room 4097 job firstPlace (noJoints sums) memory nothing (begin-going job memory b r)
 
-size-of : (job : List ℕ) (j : Job) (f : Final) (memory : List ℤ) → Matches job j f 0 memory → walkedAnswer (f .answer) ≡ sizeFrom j
+size-of : (job : List ℕ) (j : Listing) (f : Final) (memory : List ℤ) → Matches job j f 0 memory → walkedAnswer (f .answer) ≡ sizeFrom (placedOf j)
 size-of job (refused number offset) f memory m = ap walkedAnswer m
-size-of job (accepted ps) f memory m = ap walkedAnswer (m .0) ∙ ap rowsAnswer (omega arith)
+size-of job (accepted es) f memory m = ap walkedAnswer (m .0) ∙ ap rowsAnswer (omega arith)
 
-fault-of : (job : List ℕ) (j : Job) (f : Final) (memory : List ℤ) → Matches job j f 0 memory → walkedFault job (f .answer) ≡ faultIn job j
+fault-of : (job : List ℕ) (j : Listing) (f : Final) (memory : List ℤ) → Matches job j f 0 memory → walkedFault job (f .answer) ≡ faultIn job (placedOf j)
 fault-of job (refused number offset) f memory m = ap (walkedFault job) m
-fault-of job (accepted ps) f memory m = ap (walkedFault job) (m .0)
+fault-of job (accepted es) f memory m = ap (walkedFault job) (m .0)
 
 module _ (room : Bool) (sums : List ℕ) (s : SoundSums room sums) (job : List ℕ) (memory : List ℤ) (b : Bytes job) (r : roomFor (length memory) ≡ room) where
   pub size-is : walkedAnswer (walkFrom room 4097 job firstPlace (noJoints sums) memory .answer) ≡ sizeOf job
-  unfolding sizeOf
-  size-is = size-of job (placed job) (walkFrom room 4097 job firstPlace (noJoints sums) memory) memory (begin-matches room sums s job memory b r)
+  unfolding sizeOf placed
+  size-is = size-of job (listed job) (walkFrom room 4097 job firstPlace (noJoints sums) memory) memory (begin-matches room sums s job memory b r)
 
   pub fault-is : walkedFault job (walkFrom room 4097 job firstPlace (noJoints sums) memory .answer) ≡ faultOf job
-  unfolding faultOf
-  fault-is = fault-of job (placed job) (walkFrom room 4097 job firstPlace (noJoints sums) memory) memory (begin-matches room sums s job memory b r)
+  unfolding faultOf placed
+  fault-is = fault-of job (listed job) (walkFrom room 4097 job firstPlace (noJoints sums) memory) memory (begin-matches room sums s job memory b r)

@@ -10,8 +10,8 @@ use lib.Dec.{eqb}
 use Rattle.format.specs.declared.Command.{Command}
 use Rattle.format.specs.declared.Command.the-variants.{Finish as finish, Settings as settings, Joint as joint, Column as column, Beam as beam, Hingeless as hingeless, WallBase as wallBase, Storey as storey, Soil as soil, Footing as footing, Detail as detail}
 use Rattle.context.specs.Context.{Context, nothing, next}
-use Rattle.job.specs.Placed.{Placed, accepted, placed}
-use Rattle.job.specs.Earlier.{contextAfter, orElse, latest, settingsIn, jointIn, givenUnder, baseIn, latestSettings, latestJoint, latestBase}
+use Rattle.job.specs.Placed.{Placed, contextAfter, accepted, placed}
+use Rattle.job.specs.Earlier.{orElse, latest, settingsIn, jointIn, givenUnder, baseIn, latestSettings, latestJoint, latestBase}
 use Rattle.job.proofs.AcceptedLaws.{accepted-each}
 
 -- ---- one part of what holds, and what a command gives of it
@@ -75,4 +75,4 @@ module _ (ps : List Placed) where
 
 pub latest-joint : (job : List ℕ) (ps : List Placed) → placed job ≡ accepted ps → (earlier : List Placed) (p : Placed) (later : List Placed) → ps ≡ earlier ++ p ∷ later →
     (id : ℕ) → p .context .joints id ≡ latestJoint id earlier
-latest-joint job ps e earlier p later q id = ap (λ (h : Context). h .joints id) (accepted-each job ps e earlier p later q .context) ∙ joint-left earlier id
+latest-joint job ps e earlier p later q id = ap (λ (h : Context). h .joints id) (accepted-each job ps e earlier p later q .0) ∙ joint-left earlier id

@@ -17,18 +17,19 @@ use Rattle.format.specs.declared.Command.the-variants.{Finish as finish, Settin
 use Rattle.layout.proofs.Numbers.{Bytes}
 use Rattle.context.specs.declared.State.{State}
 use Rattle.context.specs.Context.{Context, nothing, given, absent}
-use Rattle.context.specs.Running.{roomFor, wallKept, nextState, withSettings, withWall, withGround}
+use Rattle.context.specs.Running.{roomFor, startState, wallKept, nextState, withSettings, withWall, withGround}
 use Rattle.context.proofs.Shown.{shown, WallShows, Shows, differ, present}
-use Rattle.job.specs.declared.Place.{Place}
 use Rattle.rows.specs.Rows.{words, rowsOf, rowsWith}
-use Rattle.job.specs.Placed.{Placed, rowsAt}
-use Rattle.job.specs.Earlier.{contextAfter, orElse, baseIn, latestSettings, latestBase}
-use Rattle.job.specs.Walking.{firstPlace, noJoints}
-use Rattle.job.specs.Reached.{reached, placeAfter, jointsAfter}
+use Rattle.job.specs.Placed.{Placed, contextAfter, placedAll, rowsAt}
+use Rattle.job.specs.Earlier.{orElse, baseIn, latestSettings, latestBase}
+use Rattle.job.specs.Walking.{stateThrough, jointsThrough, noJoints}
+use Rattle.job.specs.Reached.{reached, located}
 use Rattle.job.specs.LatestWall.{wallAfter, carriedRow, Carries, AtEveryPlace, AtEveryStorey}
 use Rattle.job.proofs.Begin.{zero-sums}
-use Rattle.job.proofs.Reached.{reached-each}
-use Rattle.job.proofs.WalkThrough.{ends-there, stands-after, pauses-there, shows-after}
+use Rattle.job.proofs.Reached.{reached-each, reached-placed}
+use Rattle.job.proofs.AlreadyMet.{placed-both}
+use Rattle.job.proofs.Located.{located-both, state-both, within, before-kept}
+use Rattle.job.proofs.WalkThrough.{ends-there, state-there, stands-after, pauses-there, shows-after}
 use Rattle.job.proofs.Latest.{settings-left, base-left}
 
 -- ---- worked out once
@@ -61,38 +62,30 @@ neither none b e = (refl, e)
 neither (some a) b e = absurd (Option·none-ne-some a (sym e))
 
 -- the commands up to the next base leave them, whatever they are
-pub values-kept : (room : Bool) (s : Place) (ps : List Placed) → latestBase ps ≡ none → placeAfter room s ps .state .wall ≡ s .state .wall
-values-kept room s [] e = refl
-values-kept room s (p ∷ ps) e =
+pub values-kept : (room : Bool) (t : State) (ps : List Placed) → latestBase ps ≡ none → stateThrough room t (located ps) .wall ≡ t .wall
+values-kept room t [] e = refl
+values-kept room t (p ∷ ps) e =
     let (later, own) = neither (latestBase ps) (baseIn (p .command)) e in
-    values-kept room _ ps later ∙ wall-next room (s .state) (p .command) ∙ ap (wallBy room (s .state)) own
+    values-kept room (nextState room t (p .command)) ps later ∙ wall-next room t (p .command) ∙ ap (wallBy room t) own
 
 -- a walk without room works out none
-pub none-without-room : (s : Place) (ps : List Placed) → placeAfter false s ps .state .wall ≡ s .state .wall
-none-without-room s [] = refl
-none-without-room s (p ∷ ps) = none-without-room _ ps ∙ wall-next false (s .state) (p .command) ∙ same (baseIn (p .command))
+pub none-without-room : (t : State) (ps : List Placed) → stateThrough false t (located ps) .wall ≡ t .wall
+none-without-room t [] = refl
+none-without-room t (p ∷ ps) = none-without-room (nextState false t (p .command)) ps ∙ wall-next false t (p .command) ∙ same (baseIn (p .command))
   where
-    same : (o : Option WallBase) → wallBy false (s .state) o ≡ s .state .wall
+    same : (o : Option WallBase) → wallBy false t o ≡ t .wall
     same none = refl
     same (some b) = refl
 
 -- ---- those of the latest base
 
--- eight words are room for a row
-memory₈ : List ℤ
-memory₈ = replicate 8 (pos 0)
-
-room₈ : roomFor (length memory₈) ≡ true
-unfolding memory₈
-room₈ = refl
-
-module _ (job : List ℕ) (b : Bytes job) (earlier later : List Placed) (e : reached job ≡ earlier ++ later) where
+module _ (job : List ℕ) (b : Bytes job) (earlier later : List Placed) (e : placedAll (reached job) ≡ earlier ++ later) where
   there : State
-  there = placeAfter true firstPlace earlier .state
+  there = stateThrough true startState (located earlier)
 
-  shows : Shows true there (jointsAfter true (noJoints (replicate 768 0)) earlier) (contextAfter nothing earlier)
+  shows : Shows true there (jointsThrough true (noJoints (replicate 768 0)) (located earlier)) (contextAfter nothing earlier)
   unfolding there
-  shows = shows-after true (replicate 768 0) (zero-sums true) job b earlier later e memory₈ room₈
+  shows = shows-after true (replicate 768 0) (zero-sums true) job b earlier later e
 
   module _ (base : WallBase) (l : latestBase earlier ≡ some base) where
     holds : contextAfter nothing earlier .wall ≡ some base
@@ -122,9 +115,20 @@ module _ (job : List ℕ) (b : Bytes job) (earlier later : List Placed) (e : rea
           resistance = rw wall-is;
         }
 
+-- eight words are room for a row
+memory₈ : List ℤ
+memory₈ = replicate 8 (pos 0)
+
+room₈ : roomFor (length memory₈) ≡ true
+unfolding memory₈
+room₈ = refl
+
 -- at every place behind a base
 pub at-every-place : (job : List ℕ) → Bytes job → AtEveryPlace job
-at-every-place job b earlier later e base l = carried job b earlier later e base l
+at-every-place job b before later e base l = (
+  ap (λ (t : State). t .wall) (state-there true (replicate 768 0) (zero-sums true) job b before later e memory₈ room₈),
+  carried job b (placedAll before) (placedAll later) (ap placedAll e ∙ placed-both before later) base l,
+)
 
 -- the row of a storey that stands behind its base
 row-carried : (earlier : List Placed) (p : Placed) (base : WallBase) (s : Storey) → p .context .settings ≡ latestSettings earlier → p .context .wall ≡ some base → p .command ≡ storey s →
@@ -136,17 +140,32 @@ row-carried earlier p base s es ew c k = rw (c, es ∙ k .given, ew, k .coeffici
 pub at-every-storey : (job : List ℕ) → Bytes job → AtEveryStorey job
 unfolding absent
 at-every-storey job b earlier p later e s c =
-    let t = reached-each job earlier p later e in
+    let (context, t) = reached-placed job earlier p later e in
     let (base, holds) = present (p .context .wall) (rw c at (t .present)) in
-    let l : latestBase earlier ≡ some base = sym (base-left earlier) ∙ ap (λ (h : Context). h .wall) (sym (t .context)) ∙ holds in
+    let l : latestBase earlier ≡ some base = sym (base-left earlier) ∙ ap (λ (h : Context). h .wall) (sym context) ∙ holds in
     let k = carried job b earlier (p ∷ later) e base l in
+    let w = within (reached job) earlier p later e in
+    let at = reached-each job (w .before) (w .entry) (w .after) (w .listed) in
+    let room = zero-sums true in
+    let state = state-there true (replicate 768 0) room job b (w .before) (w .entry ∷ w .after) (w .listed) memory₈ room₈ in
     record {
       base = base;
       latest = l;
       holds = holds;
-      offset = ends-there true (replicate 768 0) (zero-sums true) job b earlier (p ∷ later) e memory₈ room₈ ∙ sym (t .place);
-      pauses = pauses-there true (replicate 768 0) (zero-sums true) job b earlier (p ∷ later) e;
-      stands = stands-after true (replicate 768 0) (zero-sums true) job b earlier (p ∷ later) e;
+      before = w .before;
+      entry = w .entry;
+      sets = w .sets;
+      among = (w .rest, w .among);
+      earlier-are = w .earlier-are;
+      offset = ends-there true (replicate 768 0) room job b (w .before) (w .entry ∷ w .after) (w .listed) memory₈ room₈ ∙ sym (at .place);
+      pauses = pauses-there true (replicate 768 0) room job b (w .before) (w .entry ∷ w .after) (w .listed);
+      stands = stands-after true (replicate 768 0) room job b (w .before) (w .entry ∷ w .after) (w .listed);
+      state = state ∙ sym (
+        ap (λ (ps : List Placed). stateThrough true startState (located ps)) (w .earlier-are)
+        ∙ ap (stateThrough true startState) (located-both (placedAll (w .before)) (w .sets))
+        ∙ state-both true startState (located (placedAll (w .before))) (located (w .sets))
+        ∙ before-kept true (stateThrough true startState (located (placedAll (w .before)))) (w .entry .context) (w .entry .offset) (w .entry .given) (w .sets) p (w .rest) (w .among)
+      );
       carries = k;
-      row = row-carried earlier p base s (ap (λ (h : Context). h .settings) (t .context) ∙ settings-left earlier) holds c k;
+      row = row-carried earlier p base s (ap (λ (h : Context). h .settings) context ∙ settings-left earlier) holds c k;
     }

@@ -14,19 +14,20 @@ use Rattle.layout.specs.Operands.{byteAt, readOperands}
 use Rattle.format.specs.Reading.{commandAt}
 use Rattle.context.specs.Context.{Context, nothing, next, given, absent}
 use Rattle.rows.specs.Rows.{rowsOf, rowsWith}
-use Rattle.job.specs.Faults.{unknown, cutShort, tooMany, misplaced, outOfRange, testsAt}
-use Rattle.job.specs.Placed.{refused, placedBy, placedWith, placed, allRows}
+use Rattle.blocks.specs.FileCommands.{fileCommandAt, widthAt}
+use Rattle.job.specs.Faults.{unknown, cutShort, tooMany, misplaced, outOfRange, commandTests, testsAt}
+use Rattle.job.specs.Placed.{refused, listedBy, listed, placedWith, placed, allRows}
 use Rattle.job.specs.Answers.{rowsAnswer, sizeOf}
 use Rattle.job.proofs.AcceptedBefore.{with7}
 use Rattle.job.proofs.PlacedCases.{faultAt}
 
 -- ---- commands
 
-abbrev zeros : ℕ → List ℕ
+abbrev pub zeros : ℕ → List ℕ
 zeros n = replicate n 0
 
 -- q 300, gj 120, gf 120: 7 bytes
-abbrev settings : List ℕ
+abbrev pub settings : List ℕ
 settings = 0x01 ∷ 0x01 ∷ 0x2c ∷ 0x00 ∷ 0x78 ∷ 0x00 ∷ 0x78 ∷ []
 
 -- q 0
@@ -50,18 +51,18 @@ abbrev hingeless : List ℕ
 hingeless = 0x05 ∷ 0x00 ∷ 0x00 ∷ 0x0b ∷ 0xb8 ∷ 0x09 ∷ 0x0a ∷ zeros 16
 
 -- J 1, J0 1: 25 bytes
-abbrev storey : List ℕ
+abbrev pub storey : List ℕ
 storey = 0x07 ∷ zeros 11 ++ 0x01 ∷ zeros 3 ++ 0x01 ∷ zeros 8
 
 -- J 2, J0 1
-abbrev wrongStorey : List ℕ
+abbrev pub wrongStorey : List ℕ
 wrongStorey = 0x07 ∷ zeros 11 ++ 0x02 ∷ zeros 3 ++ 0x01 ∷ zeros 8
 
 -- 1,000 by 1,000: 58 bytes
 abbrev footing : List ℕ
 footing = 0x09 ∷ 0x00 ∷ 0x00 ∷ 0x03 ∷ 0xe8 ∷ 0x00 ∷ 0x00 ∷ 0x03 ∷ 0xe8 ∷ zeros 49
 
-abbrev finish : List ℕ
+abbrev pub finish : List ℕ
 finish = 0x00 ∷ []
 
 -- ---- each number, with its offset; 8 is below
@@ -71,7 +72,7 @@ pub record Numbers : Type 0 where
   pub no-end : placed settings ≡ refused 1 7
   pub no-end-later : placed (settings ++ column) ≡ refused 1 36
   pub cut-short : placed (settings ++ 0x03 ∷ zeros 27) ≡ refused 1 7
-  pub unknown-command : placed (settings ++ 0x0b ∷ []) ≡ refused 2 7
+  pub unknown-command : placed (settings ++ 0x0c ∷ []) ≡ refused 2 7
   pub after-end : placed (settings ++ finish ++ finish) ≡ refused 3 8
   pub end-first : placed finish ≡ refused 4 0
   pub end-first-more : placed (finish ++ finish) ≡ refused 4 0
@@ -89,7 +90,7 @@ pub record Numbers : Type 0 where
 
 pub numbers : Numbers
 unfolding
-    sizeOf allRows rowsOf rowsWith placed placedBy testsAt tooMany misplaced known knownIn formsOf formsIn operandsWidth widthOfAll width commandAt commandOf readOperands number numberAfter inRange allInRange formInRange
+    sizeOf allRows rowsOf rowsWith placed listed listedBy testsAt commandTests widthAt fileCommandAt tooMany misplaced known knownIn formsOf formsIn operandsWidth widthOfAll width commandAt commandOf readOperands number numberAfter inRange allInRange formInRange
     related within withinSigned signed32 bits32 next absent
 numbers =
     record {
@@ -123,12 +124,12 @@ abbrev Last : Bool → List ℕ → Context → ℕ → Type 0
 Last other command h number = (tooMany (byteAt command 0) 4096 ≡ true) × (other ≡ true) × (faultAt command 0 4096 h ≡ number)
 
 -- what holds after settings
-abbrev begun : Context
+abbrev pub begun : Context
 begun = next nothing (commandAt settings 0)
 
 -- the jobs
 abbrev unknownFirst : List ℕ
-unknownFirst = 0x0b ∷ []
+unknownFirst = 0x0c ∷ []
 
 abbrev columnCut : List ℕ
 columnCut = 0x03 ∷ zeros 27
@@ -169,7 +170,7 @@ pub record OrderOfTrial : Type 0 where
 
 pub order-of-trial : OrderOfTrial
 unfolding
-    placed placedBy testsAt tooMany misplaced known knownIn formsOf formsIn operandsWidth widthOfAll width commandAt commandOf readOperands number numberAfter inRange allInRange formInRange
+    placed listed listedBy testsAt commandTests widthAt fileCommandAt tooMany misplaced known knownIn formsOf formsIn operandsWidth widthOfAll width commandAt commandOf readOperands number numberAfter inRange allInRange formInRange
     related within withinSigned signed32 bits32 next absent
 order-of-trial =
     record {

@@ -5,18 +5,21 @@ use mathlib.Core.Bool.{Bool, true, false, not, cond}
 use mathlib.Core.List.{List, _++_}
 use Prim.Native.Nat.{ℕ, zero, suc, _+_, _≤_, _<_}
 use native.Mathlib.Omega.{arith}
+use native.Mathlib.Decide.{decLe}
 use lib.Dec.{T, eqb, leb, lit≤, T-not}
 use lib.ListN.{length, length-append, List·getD-append}
 use Rattle.layout.specs.Layouts.{operandsWidth}
 use Rattle.layout.specs.Operands.{byteAt}
 use Rattle.format.specs.Reading.{commandAt}
 use Rattle.layout.proofs.Widths.{widths}
-use Rattle.context.specs.Context.{Context, nothing, next, given, absent}
-use Rattle.job.specs.Faults.{unknown, afterCommand, cutShort, tooMany, misplaced, outOfRange, testsAt}
-use Rattle.job.specs.Placed.{Placed, Job, refused, accepted, before, placedBy, placed}
-use Rattle.job.proofs.Faultless.{faultless}
-use Rattle.job.proofs.Front.{byte-in-front, command-in-front, fault-in-front}
-use Rattle.job.proofs.PlacedCases.{faultAt, not-both, placedAt, restAfter, placed-fault, placed-more, placed-goes, by-cases}
+use Rattle.blocks.specs.Sets.{isBlock, countAt, setsOf}
+use Rattle.blocks.proofs.FileCommands.{width-one, width-some}
+use Rattle.context.specs.Context.{Context, nothing, given, absent}
+use Rattle.job.specs.Faults.{unknown, afterCommand, cutShort, tooMany, misplaced, outOfRange, countMissing, countOutOfRange, passesLimit, withoutBase, setOutOfRange, commandTests, blockTests, testsAt}
+use Rattle.job.specs.Placed.{Entry, entryAt, Listing, refused, accepted, before, listedBy, listed, placedOf, placed}
+use Rattle.job.proofs.Faultless.{command-fault, block-fault, passed}
+use Rattle.job.proofs.Front.{byte-in-front, width-in-front, given-in-front, fault-in-front, not-held}
+use Rattle.job.proofs.PlacedCases.{faultAt, not-both, weightAt, contextBehind, restAfter, placed-fault, placed-more, placed-goes, by-cases, listed-refused}
 
 -- ---- where a refusal stands, and its number
 
@@ -27,10 +30,8 @@ pub record FaultNumber (n : ℕ) : Type 0 where
   pub not-seven : n ≡ 7 → ⊥
 
 pub fault-number : (job : List ℕ) (at count : ℕ) (h : Context) → FaultNumber (faultAt job at count h)
-unfolding testsAt
-fault-number job at count h =
-    pick (unknown job at) 2 tt tt tt (pick (cutShort job at) 1 tt tt tt (pick (tooMany (byteAt job at) count) 8 tt tt tt (pick (misplaced (byteAt job at) (given (h .settings))) 4 tt tt tt
-    (pick (outOfRange (commandAt job at)) 5 tt tt tt (pick (absent h (commandAt job at)) 6 tt tt tt (is 0 tt tt tt))))))
+unfolding commandTests blockTests
+fault-number job at count h = by (isBlock (byteAt job at)) refl
   where
     is : (n : ℕ) → T (leb n 8) → T (not (eqb n 3)) → T (not (eqb n 7)) → FaultNumber n
     is n l t s = record { most = lit≤ l; other = λ e. T-not (eqb n 3) t (rw e tt); not-seven = λ e. T-not (eqb n 7) s (rw e tt) }
@@ -38,6 +39,17 @@ fault-number job at count h =
     pick : (t : Bool) (m : ℕ) {n : ℕ} → T (leb m 8) → T (not (eqb m 3)) → T (not (eqb m 7)) → FaultNumber n → FaultNumber (cond t m n)
     pick true m l o s r = is m l o s
     pick false m l o s r = r
+
+    by : (k : Bool) → isBlock (byteAt job at) ≡ k → FaultNumber (faultAt job at count h)
+    by true b =
+        subst FaultNumber (sym (block-fault job at count h b))
+        (pick (unknown job at) 2 tt tt tt (pick (countMissing job at) 1 tt tt tt (pick (countOutOfRange (countAt job at)) 5 tt tt tt (pick (cutShort job at) 1 tt tt tt
+        (pick (passesLimit (countAt job at) count) 8 tt tt tt (pick (misplaced (byteAt job at) (given (h .settings))) 4 tt tt tt
+        (pick (withoutBase h) 6 tt tt tt (pick (setOutOfRange (setsOf job at)) 5 tt tt tt (is 0 tt tt tt)))))))))
+    by false b =
+        subst FaultNumber (sym (command-fault job at count h b))
+        (pick (unknown job at) 2 tt tt tt (pick (cutShort job at) 1 tt tt tt (pick (tooMany (byteAt job at) count) 8 tt tt tt (pick (misplaced (byteAt job at) (given (h .settings))) 4 tt tt tt
+        (pick (outOfRange (commandAt job at)) 5 tt tt tt (pick (absent h (commandAt job at)) 6 tt tt tt (is 0 tt tt tt)))))))
 
 -- a refusal of the commands from `at` on
 record Stands (job : List ℕ) (at number offset : ℕ) : Type 0 where
@@ -47,12 +59,12 @@ record Stands (job : List ℕ) (at number offset : ℕ) : Type 0 where
   pub most : number ≤ 8
   pub not-seven : number ≡ 7 → ⊥
 
-abbrev Standing : List ℕ → ℕ → Job → Type 0
+abbrev Standing : List ℕ → ℕ → Listing → Type 0
 Standing job at (refused number offset) = Stands job at number offset
-Standing job at (accepted ps) = Unit {0}
+Standing job at (accepted es) = Unit {0}
 
-standing : (n : ℕ) (job : List ℕ) (at count : ℕ) (h : Context) → at ≤ length job → Standing job at (placedBy testsAt n job at count h)
-unfolding placedBy
+standing : (n : ℕ) (job : List ℕ) (at count : ℕ) (h : Context) → at ≤ length job → Standing job at (listedBy testsAt n job at count h)
+unfolding listedBy
 standing zero job at count h w = record { from = omega arith; inside = w; least = lit≤ tt; most = lit≤ tt; not-seven = λ e. omega arith }
 standing (suc n) job at count h w =
     by-cases testsAt n job at count h (Standing job at)
@@ -62,16 +74,16 @@ standing (suc n) job at count h w =
     record { from = omega arith; inside = w; least = omega arith; most = omega (arith, f .most); not-seven = λ s. f .not-seven (e ∙ s) })
     (λ l e b m. record { from = omega arith; inside = omega arith; least = lit≤ tt; most = lit≤ tt; not-seven = λ e. omega arith })
     (λ l e b m. tt)
-    (λ l e b. earlier (restAfter testsAt n job at count h) (standing n job (afterCommand job at) (count + 1) (next h (commandAt job at)) (faultless job at count h e .whole)))
+    (λ l e b. earlier (restAfter testsAt n job at count h) (standing n job (afterCommand job at) (count + weightAt job at) (contextBehind job at h) (passed job at count h e .whole)))
   where
-    earlier : (j : Job) → Standing job (afterCommand job at) j → Standing job at (before (placedAt job at h) j)
+    earlier : (j : Listing) → Standing job (afterCommand job at) j → Standing job at (before (entryAt job at h) j)
     earlier (refused number offset) s = record { from = omega (arith, s .from); inside = s .inside; least = s .least; most = s .most; not-seven = s .not-seven }
-    earlier (accepted ps) s = tt
+    earlier (accepted es) s = tt
 
 module _ (job : List ℕ) (number offset : ℕ) (e : placed job ≡ refused number offset) where
   stands : Stands job 0 number offset
-  unfolding placed
-  stands = subst (Standing job 0) e (standing 4097 job 0 0 nothing (omega arith))
+  unfolding listed
+  stands = subst (Standing job 0) (listed-refused job number offset e) (standing 4097 job 0 0 nothing (omega arith))
 
   -- the refused offset is at most the file's length
   pub refused-offset : offset ≤ length job
@@ -88,9 +100,9 @@ module _ (job : List ℕ) (number offset : ℕ) (e : placed job ≡ refused numb
 -- ---- a refusal stays
 
 -- what is behind a command is refused where the whole is
-behind : (p : Placed) (j : Job) {number offset : ℕ} → before p j ≡ refused number offset → j ≡ refused number offset
-behind p (refused number offset) e = e
-behind p (accepted ps) e = absurd (not-both (sym e))
+behind : (x : Entry) (j : Listing) {number offset : ℕ} → before x j ≡ refused number offset → j ≡ refused number offset
+behind x (refused number offset) e = e
+behind x (accepted es) e = absurd (not-both (sym e))
 
 -- where the refusal is of a command, the front holds this whole; where it is 3, its offset lies in the front
 module _ (front a b : List ℕ) (number offset : ℕ) (w : offset < length front) (whole : (number ≡ 3 → ⊥) → afterCommand front offset ≤ length front) where
@@ -98,12 +110,20 @@ module _ (front a b : List ℕ) (number offset : ℕ) (w : offset < length front
   fault-same : (at count : ℕ) (h : Context) → afterCommand front at ≤ length front → faultAt (front ++ b) at count h ≡ faultAt (front ++ a) at count h
   fault-same at count h v = fault-in-front front at v b count h ∙ sym (fault-in-front front at v a count h)
 
+  -- a command that ends within the front lies in it
+  held-before : (c : List ℕ) (at : ℕ) → afterCommand (front ++ c) at ≤ length front → afterCommand front at ≤ length front
+  held-before c at l = by (decLe (afterCommand front at) (length front))
+    where
+      by : Dec (afterCommand front at ≤ length front) → afterCommand front at ≤ length front
+      by (yes v) = v
+      by (no v) = omega (arith, not-held front c at (omega arith))
+
   longer : (c : List ℕ) {k : ℕ} → k < length front → k < length (front ++ c)
   longer c h = omega (arith, length-append front c)
 
   -- a job that begins as this one does is refused as this one is
-  abbrev Kept : ℕ → ℕ → ℕ → Context → Job → Type 0
-  Kept n at count h j = j ≡ refused number offset → placedBy testsAt n (front ++ b) at count h ≡ refused number offset
+  abbrev Kept : ℕ → ℕ → ℕ → Context → Listing → Type 0
+  Kept n at count h j = j ≡ refused number offset → listedBy testsAt n (front ++ b) at count h ≡ refused number offset
 
   -- the cases of a step
   module _ (n at count : ℕ) (h : Context) (l : at < length (front ++ a)) where
@@ -120,30 +140,29 @@ module _ (front a b : List ℕ) (number offset : ℕ) (w : offset < length front
           let q : offset ≡ at + 1 = cc in
           let u : at + 1 < length front = omega arith in
           let y : byteAt front at ≡ 0 = sym (List·getD-append front a 0 at (omega arith)) ∙ z in
-          let v : afterCommand front at ≤ length front = omega (arith, ap operandsWidth y ∙ widths .finish) in
+          let v : afterCommand front at ≤ length front = omega (arith, width-one front at (ap isBlock y), ap operandsWidth y ∙ widths .finish) in
           placed-more testsAt n (front ++ b) at count h (longer b (omega arith)) (fault-same at count h v ∙ f) (byte-in-front front at v b ∙ y) (longer b u) ∙ e
 
-      kept-on : (byteAt (front ++ a) at ≡ 0 → ⊥) → Kept n (afterCommand (front ++ a) at) (count + 1) (next h (commandAt (front ++ a) at)) (restAfter testsAt n (front ++ a) at count h) →
-          Kept (suc n) at count h (before (placedAt (front ++ a) at h) (restAfter testsAt n (front ++ a) at count h))
+      kept-on : (byteAt (front ++ a) at ≡ 0 → ⊥) → Kept n (afterCommand (front ++ a) at) (count + weightAt (front ++ a) at) (contextBehind (front ++ a) at h) (restAfter testsAt n (front ++ a) at count h) →
+          Kept (suc n) at count h (before (entryAt (front ++ a) at h) (restAfter testsAt n (front ++ a) at count h))
       kept-on z ih e =
-          let r = behind (placedAt (front ++ a) at h) (restAfter testsAt n (front ++ a) at count h) e in
+          let r = behind (entryAt (front ++ a) at h) (restAfter testsAt n (front ++ a) at count h) e in
           let s : Stands (front ++ a) (afterCommand (front ++ a) at) number offset =
           subst (Standing (front ++ a) (afterCommand (front ++ a) at)) r
-          (standing n (front ++ a) (afterCommand (front ++ a) at) (count + 1) (next h (commandAt (front ++ a) at)) (faultless (front ++ a) at count h f .whole)) in
-          let y : byteAt (front ++ a) at ≡ byteAt front at = List·getD-append front a 0 at (omega (arith, s .from)) in
-          let v : afterCommand front at ≤ length front = omega (arith, rw y at (s .from)) in
+          (standing n (front ++ a) (afterCommand (front ++ a) at) (count + weightAt (front ++ a) at) (contextBehind (front ++ a) at h) (passed (front ++ a) at count h f .whole)) in
+          let v : afterCommand front at ≤ length front = held-before a at (omega (arith, s .from)) in
           let g : restAfter testsAt n (front ++ b) at count h ≡ refused number offset =
-          rw (byte-in-front front at v b, command-in-front front at v b) (rw (y, command-in-front front at v a) at (ih r)) in
-          placed-goes testsAt n (front ++ b) at count h (longer b (omega arith)) (fault-same at count h v ∙ f) (λ q. z (y ∙ sym (byte-in-front front at v b) ∙ q)) ∙ ap (before (placedAt (front ++ b) at h)) g
+          rw (width-in-front front at v b, given-in-front front at v b) (rw (width-in-front front at v a, given-in-front front at v a) at (ih r)) in
+          placed-goes testsAt n (front ++ b) at count h (longer b (omega (arith, width-some front at))) (fault-same at count h v ∙ f) (λ q. z (byte-in-front front at v a ∙ sym (byte-in-front front at v b) ∙ q)) ∙ ap (before (entryAt (front ++ b) at h)) g
 
-  kept : (n at count : ℕ) (h : Context) → Kept n at count h (placedBy testsAt n (front ++ a) at count h)
-  unfolding placedBy
+  kept : (n at count : ℕ) (h : Context) → Kept n at count h (listedBy testsAt n (front ++ a) at count h)
+  unfolding listedBy
   kept zero at count h = λ e. e
   kept (suc n) at count h =
       by-cases testsAt n (front ++ a) at count h (Kept (suc n) at count h)
       (λ l e. let q : length (front ++ a) ≡ offset = cc in absurd (beyond q (length-append front a)))
       (kept-fault n at count h) (λ l f z m. kept-after n at count h l f z) (λ l f z m e. absurd (not-both (sym e)))
-      (λ l f z. kept-on n at count h l f z (kept n (afterCommand (front ++ a) at) (count + 1) (next h (commandAt (front ++ a) at))))
+      (λ l f z. kept-on n at count h l f z (kept n (afterCommand (front ++ a) at) (count + weightAt (front ++ a) at) (contextBehind (front ++ a) at h)))
     where
       beyond : length (front ++ a) ≡ offset → length (front ++ a) ≡ length front + length a → ⊥
       beyond q l = omega arith
@@ -151,12 +170,12 @@ module _ (front a b : List ℕ) (number offset : ℕ) (w : offset < length front
 module _ (front a b : List ℕ) where
   -- A job with a refusal stays refused at the same place whatever bytes follow a faulty command that is not cut short: `front`
   -- is what is kept, and holds that command whole.
-  pub refused-stays : (number offset : ℕ) → placed (front ++ a) ≡ refused number offset →
-      offset + 1 + operandsWidth (byteAt front offset) ≤ length front → placed (front ++ b) ≡ refused number offset
-  unfolding placed
-  refused-stays number offset e w = kept front a b number offset (omega arith) (λ t. w) 4097 0 0 nothing e
+  pub refused-stays : (number offset : ℕ) → placed (front ++ a) ≡ refused number offset → afterCommand front offset ≤ length front → placed (front ++ b) ≡ refused number offset
+  unfolding placed listed
+  refused-stays number offset e w =
+      ap placedOf (kept front a b number offset (omega (arith, width-some front offset)) (λ t. w) 4097 0 0 nothing (listed-refused (front ++ a) number offset e))
 
   -- and one with bytes after its end stays refused where the first of them is kept
   pub after-end-stays : (offset : ℕ) → placed (front ++ a) ≡ refused 3 offset → offset < length front → placed (front ++ b) ≡ refused 3 offset
-  unfolding placed
-  after-end-stays offset e w = kept front a b 3 offset w (λ t. absurd (t refl)) 4097 0 0 nothing e
+  unfolding placed listed
+  after-end-stays offset e w = ap placedOf (kept front a b 3 offset w (λ t. absurd (t refl)) 4097 0 0 nothing (listed-refused (front ++ a) 3 offset e))

@@ -19,9 +19,9 @@ use Rattle.format.specs.Commands.{commandOf, inRange, allInRange, related}
 use Rattle.format.specs.Reading.{commandAt}
 use Rattle.context.specs.Context.{next, absent}
 use Rattle.context.specs.Running.{startState, nextState, withSettings, withWall, withGround}
-use Rattle.job.specs.Faults.{tooMany, misplaced, testsAt}
-use Rattle.job.specs.Placed.{Placed, refused, placedBy, placed}
-use Rattle.job.specs.Walking.{firstPlace}
+use Rattle.blocks.specs.FileCommands.{fileCommandAt, widthAt}
+use Rattle.job.specs.Faults.{tooMany, misplaced, commandTests, testsAt}
+use Rattle.job.specs.Placed.{Placed, placedAll, refused, listedBy, listed, placed}
 use Rattle.job.specs.Reached.{reachedFrom, reached}
 use Rattle.job.specs.LatestWall.{wallAfter}
 
@@ -61,18 +61,18 @@ job = settings ++ first ++ storey 1 1 ++ joint ++ storey 1 2 ++ second ++ storey
 
 -- the running values after so many of the commands reached
 abbrev carried : ℕ → Wall
-carried n = wallAfter (take n (reached job))
+carried n = wallAfter (take n (placedAll (reached job)))
 
 pub record TwoWalls : Type 0 where
   pub stopped : placed job ≡ refused 5 146
-  pub offsets : map (λ (p : Placed). p .offset) (reached job) ≡ 0 ∷ 7 ∷ 32 ∷ 57 ∷ 71 ∷ 96 ∷ 121 ∷ []
+  pub offsets : map (λ (p : Placed). p .offset) (placedAll (reached job)) ≡ 0 ∷ 7 ∷ 32 ∷ 57 ∷ 71 ∷ 96 ∷ 121 ∷ []
   pub first-storey : carried 2 ≡ record { coefficient = record { num = 6500; den = 2000 }; shear = 293; resistance = 50; governs = 0 }
   pub behind-a-joint : carried 4 ≡ carried 2
   pub second-wall : carried 6 ≡ record { coefficient = record { num = 350; den = 100 }; shear = 315; resistance = 50; governs = 1 }
   pub at-fault : carried 7 ≡ carried 6
 
 pub two-walls : TwoWalls
-unfolding up smaller coefficientOf capGoverns wallOf within withinSigned number numberAfter signed32 bits32 width formInRange known knownIn formsOf formsIn widthOfAll operandsWidth readOperands commandOf inRange allInRange related commandAt next absent startState nextState withSettings withWall withGround tooMany misplaced testsAt placedBy placed firstPlace reachedFrom reached
+unfolding up smaller coefficientOf capGoverns wallOf within withinSigned number numberAfter signed32 bits32 width formInRange known knownIn formsOf formsIn widthOfAll operandsWidth readOperands commandOf inRange allInRange related commandAt next absent startState nextState withSettings withWall withGround tooMany misplaced testsAt commandTests widthAt fileCommandAt listedBy listed placed reachedFrom reached
 two-walls =
     record {
       stopped = refl;

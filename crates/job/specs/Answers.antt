@@ -7,7 +7,7 @@ use mathlib.Core.List.{List}
 use Rattle.job.specs.declared.RowCount.{RowCount}
 use Rattle.job.specs.declared.RowCount.the-variants.{Rows, Refused}
 use Rattle.layout.specs.Operands.{byteAt}
-use Rattle.format.specs.Reading.{commandAt}
+use Rattle.blocks.specs.FileCommands.{fileCommandAt}
 use Rattle.job.specs.declared.FaultAnswer.{FaultAnswer}
 use Rattle.job.specs.Faults.{operandNamed}
 use Rattle.job.specs.Placed.{Job, refused, accepted, placed, allRows}
@@ -42,7 +42,7 @@ sizeOf job = sizeFrom (placed job)
 -- missing end is refused at the file's length); and the operand that the refusal names. Where the job is accepted all are 0.
 abbrev pub faultIn : List ℕ → Job → FaultAnswer
 faultIn job (refused number offset) =
-    record { number = number; offset = offset; command = byteAt job offset; operand = operandNamed number (commandAt job offset) }
+    record { number = number; offset = offset; command = byteAt job offset; operand = operandNamed number (fileCommandAt job offset) }
 faultIn job (accepted ps) = record { number = 0; offset = 0; command = 0; operand = 0 }
 
 unfoldable pub faultOf : List ℕ → FaultAnswer

@@ -1,5 +1,4 @@
--- The commands before a place in a job: what they leave, the latest of each kind among them, and those that end at or before an
--- offset. 02, No. 1: "Let the latest definition hold for every later member, while members already met keep the figures they had";
+-- The commands before a place in a job: the latest of each kind among them, and those of the file that end at or before an offset. 02, No. 1: "Let the latest definition hold for every later member, while members already met keep the figures they had";
 -- No. 4: "those that document 01 gives for the latest base command".
 use mathlib.Core.Bool.{cond}
 use mathlib.Core.List.{List, [], _∷_}
@@ -9,17 +8,10 @@ use lib.Dec.{eqb, leb}
 use Rattle.coefficient.specs.declared.Settings.{Settings}
 use Rattle.members.specs.declared.Joint.{Joint}
 use Rattle.walls.specs.declared.WallBase.{WallBase}
-use Rattle.layout.specs.Layouts.{operandsWidth}
 use Rattle.format.specs.declared.Command.{Command}
 use Rattle.format.specs.declared.Command.the-variants.{Finish as finish, Settings as settings, Joint as joint, Column as column, Beam as beam, Hingeless as hingeless, WallBase as wallBase, Storey as storey, Soil as soil, Footing as footing, Detail as detail}
-use Rattle.format.specs.Commands.{byteOf}
-use Rattle.context.specs.Context.{Context, next}
-use Rattle.job.specs.Placed.{Placed}
-
--- what holds after these commands
-abbrev pub contextAfter : Context → List Placed → Context
-contextAfter h [] = h
-contextAfter h (p ∷ ps) = contextAfter (next h (p .command)) ps
+use Rattle.blocks.specs.FileCommands.{widthOf}
+use Rattle.job.specs.Placed.{Placed, Entry}
 
 -- ---- the latest of a kind
 
@@ -87,22 +79,18 @@ latestJoint id ps = latest (λ c. givenUnder id (jointIn c)) ps
 abbrev pub latestBase : List Placed → Option WallBase
 latestBase ps = latest baseIn ps
 
--- ---- the commands already met
+-- ---- the commands of the file already met
 
--- the bytes of a command: its own, and its operands'
-abbrev pub widthOf : Placed → ℕ
-widthOf p = 1 + operandsWidth (byteOf (p .command))
-
--- those of all these commands
-abbrev pub widthsOf : List Placed → ℕ
+-- the bytes of all these commands
+abbrev pub widthsOf : List Entry → ℕ
 widthsOf [] = 0
-widthsOf (p ∷ ps) = widthOf p + widthsOf ps
+widthsOf (e ∷ es) = widthOf (e .given) + widthsOf es
 
--- the offset after it
-abbrev pub endOf : Placed → ℕ
-endOf p = p .offset + widthOf p
+-- the offset after one
+abbrev pub endOf : Entry → ℕ
+endOf e = e .offset + widthOf (e .given)
 
--- the commands that end at or before an offset
-abbrev pub endingBy : ℕ → List Placed → List Placed
+-- those that end at or before an offset
+abbrev pub endingBy : ℕ → List Entry → List Entry
 endingBy at [] = []
-endingBy at (p ∷ ps) = cond (leb (endOf p) at) (p ∷ endingBy at ps) (endingBy at ps)
+endingBy at (e ∷ es) = cond (leb (endOf e) at) (e ∷ endingBy at es) (endingBy at es)

@@ -2,21 +2,21 @@
 -- the code stands after some of them, with the state that it holds there: the code's own step, one command after the other.
 use mathlib.Core.Path.{_≡_}
 use mathlib.Core.Bool.{Bool, _||_, cond}
-use mathlib.Core.List.{List, [], _∷_}
+use mathlib.Core.List.{List, [], _∷_, map}
 use Prim.Native.Nat.{ℕ, zero, suc, _+_}
 use lib.Dec.{eqb, leb, ltb}
 use lib.IntN.{ℤ}
 use lib.ListN.{length}
 use Rattle.layout.specs.Operands.{byteAt}
-use Rattle.format.specs.Reading.{commandAt}
-use Rattle.context.specs.Context.{Context, nothing, next}
-use Rattle.context.specs.Running.{JointTable, nextState, nextJoints}
+use Rattle.format.specs.declared.Command.{Command}
+use Rattle.context.specs.Context.{Context, nothing}
+use Rattle.context.specs.Running.{JointTable}
 use Rattle.rows.specs.Writing.{storedAll}
 use Rattle.job.specs.declared.Place.{Place}
 use Rattle.job.specs.Faults.{testsAt, firstOf, afterCommand}
-use Rattle.job.specs.Placed.{Placed, rowsAt, allRows}
+use Rattle.job.specs.Placed.{Placed, contextAfter, Entry, entryAt, commandsIn, placedIn, placedAll, allRows}
 use Rattle.job.specs.Earlier.{endOf}
-use Rattle.job.specs.Walking.{firstPlace, walkFrom}
+use Rattle.job.specs.Walking.{stateThrough, jointsThrough, firstPlace, walkFrom}
 
 -- ---- the commands reached
 
@@ -24,37 +24,43 @@ use Rattle.job.specs.Walking.{firstPlace, walkFrom}
 abbrev pub stopsAt : List ℕ → ℕ → ℕ → Context → Bool
 stopsAt job at count h = leb (length job) at || (ltb 0 (firstOf (testsAt job at count h)) || eqb (byteAt job at) 0)
 
--- from an offset on, after `count` commands, with what holds there; the first number as in `placedBy`
-unfoldable pub reachedFrom : ℕ → List ℕ → ℕ → ℕ → Context → List Placed
+-- from an offset on, after `count` commands, with what holds there; the first number as in `listedBy`
+unfoldable pub reachedFrom : ℕ → List ℕ → ℕ → ℕ → Context → List Entry
 reachedFrom zero job at count h = []
 reachedFrom (suc n) job at count h =
-    let rest = reachedFrom n job (afterCommand job at) (count + 1) (next h (commandAt job at)) in
-    cond (stopsAt job at count h) [] (record { offset = at; command = commandAt job at; context = h } ∷ rest)
+    let here = entryAt job at h in
+    let rest = reachedFrom n job (afterCommand job at) (count + length (commandsIn here)) (contextAfter h (placedIn here)) in
+    cond (stopsAt job at count h) [] (here ∷ rest)
 
--- of a whole job: those before the one at which the walk stops, each with its offset and its context. Of an accepted job they are
--- the placed commands.
-unfoldable pub reached : List ℕ → List Placed
+-- of a whole job: the commands of the file before the one at which the walk stops, each with its offset and its context. Of an
+-- accepted job they are the commands of the file.
+unfoldable pub reached : List ℕ → List Entry
 reached job = reachedFrom 4097 job 0 0 nothing
 
 -- ---- the walk of the code at them
 
--- behind one command: the offset after it, one command and its rows more, and the state after it
-abbrev pub placeBehind : Bool → Place → Placed → Place
-placeBehind room s p =
-    record { offset = endOf p; count = s .count + 1; rows = s .rows + length (rowsAt p); state = nextState room (s .state) (p .command) }
+-- placed commands without their contexts
+abbrev pub located : List Placed → List (ℕ × Command)
+located ps = map (λ p. (p .offset, p .command)) ps
 
-abbrev pub placeAfter : Bool → Place → List Placed → Place
+-- behind one command of the file: the offset after it, the commands that it gives and their rows more, and the state after them
+abbrev pub placeBehind : Bool → Place → Entry → Place
+placeBehind room s e =
+    record {
+      offset = endOf e;
+      count = s .count + length (commandsIn e);
+      rows = s .rows + length (allRows (placedIn e));
+      state = stateThrough room (s .state) (commandsIn e);
+    }
+
+abbrev pub placeAfter : Bool → Place → List Entry → Place
 placeAfter room s [] = s
-placeAfter room s (p ∷ ps) = placeAfter room (placeBehind room s p) ps
-
-abbrev pub jointsAfter : Bool → JointTable → List Placed → JointTable
-jointsAfter room joints [] = joints
-jointsAfter room joints (p ∷ ps) = jointsAfter room (nextJoints room joints (p .command)) ps
+placeAfter room s (e ∷ es) = placeAfter room (placeBehind room s e) es
 
 -- the walk from the start stands at that place after these commands: with a budget of as many it pauses there (n = 0), and with
 -- more it goes on from there
-abbrev pub StandsAfter : Bool → List ℕ → JointTable → List ℤ → List Placed → Type 0
-StandsAfter room job joints memory ps =
+abbrev pub StandsAfter : Bool → List ℕ → JointTable → List ℤ → List Entry → Type 0
+StandsAfter room job joints memory es =
     (n : ℕ) →
-    walkFrom room (length ps + n) job firstPlace joints memory
-    ≡ walkFrom room n job (placeAfter room firstPlace ps) (jointsAfter room joints ps) (storedAll memory 0 (allRows ps))
+    walkFrom room (length es + n) job firstPlace joints memory
+    ≡ walkFrom room n job (placeAfter room firstPlace es) (jointsThrough room joints (located (placedAll es))) (storedAll memory 0 (allRows (placedAll es)))

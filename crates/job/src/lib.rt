@@ -1,13 +1,13 @@
 // The walk over a job's commands: every fault in 01's order, what holds, and the rows where there is room.
 use context::State;
 ghost use mathlib.Core.Path.{_≡_};
-ghost use Prim.Native.Nat.{_<_};
+ghost use Prim.Native.Nat.{_≤_, _<_};
 ghost use lib.ListN.{length};
 ghost use Rattle.context.specs.Running.{roomFor};
 ghost use Rattle.layout.specs.Operands.{byteAt};
 ghost use Rattle.cubes.specs.Cube.{LentCubes};
 ghost use Rattle.job.specs.Faults.{tooMany, misplaced};
-ghost use Rattle.job.specs.Walking.{earlyFault, firstPlace, walkFrom, WalkAsks, walkedAnswer, walkedFault};
+ghost use Rattle.job.specs.Walking.{earlyFault, blockEarlyFault, firstPlace, walkFrom, WalkAsks, walkedAnswer, walkedFault};
 ghost use Rattle.job.specs.Answers.{rowCountAnswer, sizeOf, faultOf};
 
 // Where the walk stands: the offset of the next command, the commands and the rows so far, and what holds.
@@ -82,7 +82,32 @@ fn early_fault(bytes: usize, offset: usize, command: u8, count: u32, given: bool
     }
 }
 
-// From a place on, at most so many commands. `given` and `sums` are the joints' tables, `table` the cubes where they are lent.
+// The refusals of the block at an offset before that of its sets, in the order of trial; 0 where none is due.
+fn block_fault(job: &[u8], offset: usize, count: u32, given: bool, walled: bool) -> u32
+    requires inside { ⌜ offset < length (now job) ⌝ }
+    requires count { ⌜ count ≤ 4096 ⌝ }
+    ensures { λ r. ⌜ r ≡ blockEarlyFault (now (job .entry)) offset count given walled ⌝ }
+{
+    if job.len() - offset < 2 {
+        return 1;
+    }
+    let sets = job[offset + 1] as usize;
+    if !blocks::count_in_range(sets) {
+        return 5;
+    }
+    if job.len() - offset < 2 + blocks::SET * sets {
+        return 1;
+    }
+    if 4096 < count + sets as u32 {
+        return 8;
+    }
+    if !given {
+        return 4;
+    }
+    if walled { 0 } else { 6 }
+}
+
+// From a place on, at most so many commands of the file. `given` and `sums` are the joints' tables, `table` the cubes where they are lent.
 pub fn walk(
     job: &[u8],
     start: Place,
@@ -116,6 +141,23 @@ pub fn walk(
             break 'walk Walked::Refused(1, offset, 0);
         }
         let byte = job[offset];
+        if byte == blocks::BLOCK {
+            let early = block_fault(job, offset, count, state.given, state.walled);
+            if early != 0 {
+                break 'walk Walked::Refused(early, offset, 0);
+            }
+            let sets = job[offset + 1] as usize;
+            let named = blocks::set_named(job, offset + 2, sets);
+            if named != 0 {
+                break 'walk Walked::Refused(5, offset, named);
+            }
+            storeys = true;
+            written = rows::emit_sets(rows, written, job, offset + 2, sets, state.wall, table);
+            offset = offset + 2 + blocks::SET * sets;
+            count += sets as u32;
+            left -= 1;
+            continue 'walk;
+        }
         let early = early_fault(job.len(), offset, byte, count, state.given);
         if early != 0 {
             break 'walk Walked::Refused(early, offset, 0);

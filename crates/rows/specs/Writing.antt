@@ -3,7 +3,7 @@
 use mathlib.Core.Path.{_≡_}
 use mathlib.Core.Bool.{Bool, true, false, cond}
 use mathlib.Core.List.{List, [], _∷_, _++_}
-use Prim.Native.Nat.{ℕ, _+_, _*_}
+use Prim.Native.Nat.{ℕ, _+_, _*_, _≤_}
 use lib.Dec.{leb}
 use lib.IntN.{ℤ}
 use lib.ListN.{length, take, drop}
@@ -13,14 +13,19 @@ use Rattle.members.specs.Column.{columnRow}
 use Rattle.members.specs.Beam.{beamRow}
 use Rattle.members.specs.Hingeless.{hingelessRow}
 use Rattle.members.specs.Detail.{detailRow}
+use Rattle.walls.specs.declared.Wall.{Wall}
+use Rattle.walls.specs.declared.Storey.{Storey}
+use Rattle.walls.specs.Running.{WallRange}
 use Rattle.walls.specs.Base.{baseRowFrom}
 use Rattle.walls.specs.Storey.{storeyRowFrom}
 use Rattle.footing.specs.Rows.{footingRow}
 use Rattle.format.specs.declared.Command.{Command}
 use Rattle.format.specs.declared.Command.the-variants.{Finish as finish, Settings as settings, Joint as joint, Column as column, Beam as beam, Hingeless as hingeless, WallBase as wallBase, Storey as storey, Soil as soil, Footing as footing, Detail as detail}
 use Rattle.format.specs.Commands.{inRange}
+use Rattle.blocks.specs.Sets.{storeysAt, allInRange}
 use Rattle.context.specs.declared.State.{State}
 use Rattle.context.specs.Running.{jointHeld, SoundState, SoundSums}
+use Rattle.rows.specs.Rows.{words}
 
 unfoldable pub rowsFrom : State → List ℕ → Command → List Row
 rowsFrom t sums finish = []
@@ -35,6 +40,11 @@ rowsFrom t sums (soil s) = []
 rowsFrom t sums (footing f) =
     footingRow (t .settings) f (t .soil) (t .sensitive) false ∷ footingRow (t .settings) f (t .soil) (t .sensitive) true ∷ []
 rowsFrom t sums (detail d) = detailRow d ∷ []
+
+-- the rows of a block's sets, the first at an offset, off the running values of the wall: each row has its set's offset and 7
+unfoldable pub setRows : Wall → ℕ → List Storey → List (List ℤ)
+setRows w at [] = []
+setRows w at (s ∷ ss) = words at 7 (storeyRowFrom (fraction (w .coefficient)) (w .shear) (w .resistance) s) ∷ setRows w (at + 24) ss
 
 -- ---- writing rows: row n of a slice of words is written where there is room for it
 
@@ -58,3 +68,9 @@ pub record EmitAsks (t : State) (room : Bool) (sums : List ℕ) (c : Command) : 
   pub state : SoundState t
   pub joints : SoundSums room sums
   pub in-range : inRange c ≡ true
+
+-- for the rows of a block: so many sets that stand whole in the job, each in range
+pub record SetsAsk (w : Wall) (job : List ℕ) (at count : ℕ) : Type 0 where
+  pub wall : WallRange w
+  pub whole : at + 24 * count ≤ length job
+  pub in-range : allInRange (storeysAt count job at) ≡ true

@@ -6,6 +6,7 @@ use footing::Footing;
 use format::Command;
 use members::Beam;
 use members::Hingeless;
+use walls::Wall;
 ghost use mathlib.Core.Path.{_≡_};
 ghost use mathlib.Core.Bool.{true, false};
 ghost use mathlib.Core.List.{[], _∷_, _++_, map};
@@ -18,7 +19,8 @@ ghost use Rattle.footing.specs.Rows.{footingRow};
 ghost use Rattle.format.specs.Commands.{byteOf, inRange};
 ghost use Rattle.context.specs.Running.{roomFor, jointHeld, SettingsRange, SoundSums};
 ghost use Rattle.rows.specs.Rows.{rowCount, words};
-ghost use Rattle.rows.specs.Writing.{rowsFrom, stored, storedAll, EmitAsks};
+ghost use Rattle.blocks.specs.Sets.{storeysAt};
+ghost use Rattle.rows.specs.Writing.{rowsFrom, setRows, stored, storedAll, EmitAsks, SetsAsk};
 
 // ---- the rows of members with signed operands: what was read fits 32 bits
 
@@ -208,4 +210,57 @@ pub fn emit(
         return write_rows(rows, n, offset, state, sums, table, command);
     }
     n + row_count(command)
+}
+
+// ---- the rows of a block
+
+// One row for each of so many sets, the first at an offset, from row n on; answers the number of the row after them.
+fn write_sets(
+    rows: &mut [i64],
+    n: usize,
+    job: &[u8],
+    at: usize,
+    count: usize,
+    wall: Wall,
+    table: &[u64],
+) -> usize
+    requires table { ⌜ LentCubes (now table) ⌝ }
+    requires asks { ⌜ SetsAsk wall (now job) at count ⌝ }
+    requires rows { ⌜ n + count ≤ 8193 ⌝ }
+    ensures count { λ r. ⌜ r ≡ n + count ⌝ }
+    ensures memory { λ r. ⌜ now (rows .exit) ≡ storedAll (now (rows .entry)) n (setRows wall at (storeysAt count (now (job .entry)) at)) ⌝ }
+{
+    let mut left = count;
+    let mut start = at;
+    let mut next = n;
+    while 0 < left {
+        let storey = format::storey_at(job, start);
+        let row = walls::storey_row(wall, storey, table);
+        next = put_row(rows, next, start, 7, row);
+        start += blocks::SET;
+        left -= 1;
+    }
+    next
+}
+
+// The same, made and written only where there is room for the first row.
+pub fn emit_sets(
+    rows: &mut [i64],
+    n: usize,
+    job: &[u8],
+    at: usize,
+    count: usize,
+    wall: Wall,
+    table: &[u64],
+) -> usize
+    requires table { ⌜ LentCubes (now table) ⌝ }
+    requires asks { ⌜ SetsAsk wall (now job) at count ⌝ }
+    requires rows { ⌜ n + count ≤ 8193 ⌝ }
+    ensures count { λ r. ⌜ r ≡ n + count ⌝ }
+    ensures memory { λ r. ⌜ now (rows .exit) ≡ storedAll (now (rows .entry)) n (setRows wall at (storeysAt count (now (job .entry)) at)) ⌝ }
+{
+    if 8 * n + 8 <= rows.len() {
+        return write_sets(rows, n, job, at, count, wall, table);
+    }
+    n + count
 }

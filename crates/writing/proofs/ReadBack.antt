@@ -53,7 +53,7 @@ narrow (footing f) t =
     (tt, (tt, (tt, (tt, (bits-narrow (t .nv), (bits-narrow (t .ne), (bits-narrow (t .xv), (bits-narrow (t .xe), (bits-narrow (t .yv), (bits-narrow (t .ye), (bits-narrow (t .hv), (bits-narrow (t .he), (tt, (tt, (tt, tt)))))))))))))))
 narrow (detail d) t = (tt, (tt, (tt, (tt, (tt, tt)))))
 
-fits : (c : Command) → OfTypes c → inRange c ≡ true → Fits (formsOf (byteOf c)) (operandsOf c)
+pub fits : (c : Command) → OfTypes c → inRange c ≡ true → Fits (formsOf (byteOf c)) (operandsOf c)
 unfolding inRange
 fits c t r = fits-all (formsOf (byteOf c)) (operandsOf c) (narrow c t) (and-first (allInRange (formsOf (byteOf c)) (operandsOf c)) (related c) r)
 

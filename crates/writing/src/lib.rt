@@ -1,4 +1,5 @@
-// The call `write`: one command's values, written as bytes into a lent slice. It has no `requires`. 02, No. 2.
+// The calls `write` and `write_block`: one command's values, or a block of storeys, written as bytes into a lent slice. Neither has a
+// `requires`. 02, No. 2 and No. 7.
 use coefficient::Settings;
 use footing::Footing;
 use format::Command;
@@ -11,14 +12,17 @@ use members::Joint;
 use walls::Storey;
 use walls::WallBase;
 ghost use mathlib.Core.Path.{_≡_};
-ghost use Prim.Native.Nat.{_≤_};
+ghost use Prim.Native.Nat.{_+_, _*_, _≤_};
 ghost use lib.ListN.{length, take, drop};
 ghost use Rattle.slices.specs.Written.{Put};
 ghost use Rattle.layout.specs.Layouts.{formsOf};
 ghost use Rattle.format.specs.Commands.{operandsOf};
 ghost use Rattle.format.specs.Reading.{commandAt};
-ghost use Rattle.writing.specs.Bytes.{operandBytes};
+ghost use Rattle.blocks.specs.Sets.{allInRange};
+ghost use Rattle.blocks.specs.FileCommands.{fileCommandAt};
+ghost use Rattle.writing.specs.Bytes.{operandBytes, setBytes};
 ghost use Rattle.writing.specs.Answers.{answerOf, writeOf, bytesAfter, WritesCommand};
+ghost use Rattle.writing.specs.BlockGiven.{storeyOfWords, storeysOfWords, blockOf, writeBlockOf, blockBytesAfter};
 
 // The answer of write. `answerOf` gives 02's number, offset and bytes of each case.
 pub enum Written {
@@ -147,6 +151,23 @@ pub fn write_wall_base(b: WallBase, bytes: &mut [u8]) -> Written
     Written::Bytes(25)
 }
 
+// The operands of a storey, from an offset on.
+fn put_set(bytes: &mut [u8], at: usize, s: Storey)
+    requires { ⌜ at + 24 ≤ length (now bytes) ⌝ }
+    ensures { λ r. ⌜ Put (now (bytes .entry)) at (operandBytes (formsOf 7) (operandsOf (Command.Storey s))) (now (bytes .exit)) ⌝ }
+{
+    numbers::put_four(bytes, at, s.moment);
+    numbers::put_four(bytes, at + 4, s.shear);
+    numbers::put_fours(
+        bytes,
+        at + 8,
+        s.inertia,
+        s.baseInertia,
+        s.strength,
+        s.resistance,
+    );
+}
+
 pub fn write_storey(s: Storey, bytes: &mut [u8]) -> Written
     ensures { λ r. ⌜ WritesCommand (Command.Storey s) (now (bytes .entry)) r (now (bytes .exit)) ⌝ }
 {
@@ -157,9 +178,7 @@ pub fn write_storey(s: Storey, bytes: &mut [u8]) -> Written
         return Written::TooShort;
     }
     numbers::put_one(bytes, 0, 7);
-    numbers::put_four(bytes, 1, s.moment);
-    numbers::put_four(bytes, 5, s.shear);
-    numbers::put_fours(bytes, 9, s.inertia, s.baseInertia, s.strength, s.resistance);
+    put_set(bytes, 1, s);
     Written::Bytes(25)
 }
 
@@ -243,4 +262,80 @@ pub fn write(command: Command, bytes: &mut [u8]) -> Written
         Command::Footing(f) => write_footing(f, bytes),
         Command::Detail(d) => write_detail(d, bytes),
     }
+}
+
+// ---- a block of storeys, given as words, six a set
+
+// The storey of the six words from a position on.
+fn storey_given(sets: &[u32], at: usize) -> Storey
+    requires { ⌜ at + 6 ≤ length (now sets) ⌝ }
+    ensures { λ r. ⌜ r ≡ storeyOfWords (now (sets .entry)) at ⌝ }
+{
+    Storey {
+        moment: sets[at],
+        shear: sets[at + 1],
+        inertia: sets[at + 2],
+        baseInertia: sets[at + 3],
+        strength: sets[at + 4],
+        resistance: sets[at + 5],
+    }
+}
+
+// Whether each of so many sets is in range.
+fn sets_in_range(sets: &[u32], count: usize) -> bool
+    requires { ⌜ 6 * count ≤ length (now sets) ⌝ }
+    ensures { λ r. ⌜ r ≡ allInRange (storeysOfWords count (now (sets .entry)) 0) ⌝ }
+{
+    let mut tested = 0;
+    let mut at = 0;
+    while tested < count {
+        if !format::storey_in_range(storey_given(sets, at)) {
+            return false;
+        }
+        tested += 1;
+        at += 6;
+    }
+    true
+}
+
+// The operands of so many sets, one after the other, behind the count.
+fn put_sets(bytes: &mut [u8], sets: &[u32], count: usize)
+    requires words { ⌜ 6 * count ≤ length (now sets) ⌝ }
+    requires room { ⌜ 2 + 24 * count ≤ length (now bytes) ⌝ }
+    ensures { λ r. ⌜ Put (now (bytes .entry)) 2 (setBytes (storeysOfWords count (now (sets .entry)) 0)) (now (bytes .exit)) ⌝ }
+{
+    let mut set = 0;
+    let mut from = 0;
+    let mut at = 2;
+    while set < count {
+        put_set(bytes, at, storey_given(sets, from));
+        set += 1;
+        from += 6;
+        at += 24;
+    }
+}
+
+// The bytes of a block of so many sets, written from the slice's first byte on. Further words are not looked at.
+pub fn write_block(count: u32, sets: &[u32], bytes: &mut [u8]) -> Written
+    ensures answer { λ r. ⌜ answerOf r ≡ writeBlockOf count (now (sets .entry)) (length (now (bytes .entry))) ⌝ }
+    ensures bytes { λ r. ⌜ now (bytes .exit) ≡ blockBytesAfter count (now (sets .entry)) (now (bytes .entry)) ⌝ }
+    ensures back { λ r. ⌜ (answerOf r .number ≡ 0 → fileCommandAt (now (bytes .exit)) 0 ≡ blockOf count (now (sets .entry))) ⌝ }
+{
+    let n = count as usize;
+    if !blocks::count_in_range(n) {
+        return Written::OutOfRange;
+    }
+    if sets.len() < 6 * n {
+        return Written::OutOfRange;
+    }
+    if !sets_in_range(sets, n) {
+        return Written::OutOfRange;
+    }
+    if bytes.len() < 2 + 24 * n {
+        return Written::TooShort;
+    }
+    numbers::put_one(bytes, 0, 11);
+    numbers::put_one(bytes, 1, count);
+    put_sets(bytes, sets, n);
+    Written::Bytes(2 + 24 * n)
 }

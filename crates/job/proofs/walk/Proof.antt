@@ -1,5 +1,5 @@
 -- `job::walk` meets its contract. The outer loop's invariant: the whole walk is what is left of it (Stands.antt); the inner loop's:
--- the operands so far are in range (Scan.antt). Each way out, and the way on, is a law of Ways.antt. Assumes nothing.
+-- the operands so far are in range (format's Scan.antt). Each way out, and the way on, is a law of Ways.antt. Assumes nothing.
 use mathlib.Core.Path.{_≡_, refl, sym, ap, _∙_, subst}
 use mathlib.Core.Bool.{Bool, true, false}
 use mathlib.Core.List.{List}
@@ -17,21 +17,24 @@ use Rattle.layout.proofs.Numbers.{Bytes}
 use Rattle.layout.proofs.OperandsRead.{width-is as form-width-is}
 use Rattle.format.specs.Commands.{inRange, operandAtFault}
 use Rattle.format.specs.Reading.{commandAt}
+use Rattle.format.proofs.Scan.{Scanning, begins, command-scanned, next-fits, place-fits, found, scans-on, scanned}
+use Rattle.blocks.specs.Sets.{isBlock, countAt, setsOf, allInRange}
+use Rattle.blocks.proofs.Sets.{count-range}
 use Rattle.context.specs.Running.{roomFor, JointTable, absentIn, SoundState, SoundSums}
 use Rattle.context.proofs.Laws.{next-sound, sums-sound}
 use Rattle.job.specs.declared.Place.{Place}
 use Rattle.job.specs.declared.Walked.the-variants.{Refused}
 use Rattle.job.specs.Walking.{walkFrom, Final}
-use Rattle.job.proofs.Steps.{stop, early-none}
-use Rattle.job.proofs.Scan.{Scanning, begins, next-fits, place-fits, found, scans-on, scanned}
+use Rattle.job.proofs.Faultless.{other-byte}
+use Rattle.job.proofs.Steps.{stop, early-none, block-early-none}
 use Rattle.job.proofs.Stands.{Stands}
-use Rattle.job.proofs.Ways.{Reached, pauses, ends-short, refused-early, out-of-range, absence, bytes-after, done, on}
+use Rattle.job.proofs.Ways.{Reached, BlockReached, pauses, ends-short, refused-early, out-of-range, absence, bytes-after, done, on, block-refused-early, set-refused, sets-ranged, block-on}
 use Rattle.job.proofs.walk.Statement.{statement}
 use Rattle.job.proofs.walk.Tie as tie
 
 abbrev Inv-loop : tie.InvT-loop
 Inv-loop job budget given sums table rows room offset count written left storeys byte early operand-count place₀ at₀ place at =
-    Scanning job offset place at
+    Scanning job (byteAt job offset) (offset + 1) place at
 
 abbrev μ-loop : tie.MeasureT-loop
 μ-loop job budget given sums table rows room offset count written left storeys byte early operand-count place₀ at₀ place at =
@@ -83,24 +86,28 @@ positive n h = omega arith
 
 -- ---- a command that may be read
 
-abbrev head3 : tie.Else3 Inv-loop μ-loop Inv-walk μ-walk → tie.At-walk Inv-loop μ-loop Inv-walk μ-walk
-head3 c = c .before .before .before .before .before
+abbrev head3 : tie.Else6 Inv-loop μ-loop Inv-walk μ-walk → tie.At-walk Inv-loop μ-loop Inv-walk μ-walk
+head3 c = c .before .before .before .before .before .before
 
-reached : (c : tie.Else3 Inv-loop μ-loop Inv-walk μ-walk) → let w = head3 c in Reached (job-at w) (place-at w) (w .walk .left)
+reached : (c : tie.Else6 Inv-loop μ-loop Inv-walk μ-walk) → let w = head3 c in Reached (job-at w) (place-at w) (w .walk .left)
 reached c =
     let w = head3 c in
     record {
-      some-left = positive (w .walk .left) (c .before .before .before .before .if1 .left);
-      inside = c .before .before .before .if2 .left;
-      early = early-none (job-at w) (place-at w) (sym (c .before .early-fault .ensures) ∙ c .if3 .left);
+      some-left = positive (w .walk .left) (c .before .before .before .before .before .if1 .left);
+      inside = c .before .before .before .before .if2 .left;
+      single = other-byte (byteAt (job-at w) (w .walk .offset)) (c .before .before .if3 .left);
+      early = early-none (job-at w) (place-at w) (sym (c .before .early-fault .ensures) ∙ c .if6 .left);
     }
+
+abbrev head5 : tie.Then6 Inv-loop μ-loop Inv-walk μ-walk → tie.At-walk Inv-loop μ-loop Inv-walk μ-walk
+head5 c = c .before .before .before .before .before .before
 
 abbrev head4 : tie.After-command-in-range Inv-loop μ-loop Inv-walk μ-walk → tie.At-walk Inv-loop μ-loop Inv-walk μ-walk
 head4 c = head3 (c .before .before)
 
 -- ---- the inner loop
 
-abbrev loop3 : tie.At-loop Inv-loop μ-loop Inv-walk μ-walk → tie.Else3 Inv-loop μ-loop Inv-walk μ-walk
+abbrev loop3 : tie.At-loop Inv-loop μ-loop Inv-walk μ-walk → tie.Else6 Inv-loop μ-loop Inv-walk μ-walk
 loop3 l = l .before .before .before .before .before
 
 abbrev loop-head : tie.At-loop Inv-loop μ-loop Inv-walk μ-walk → tie.At-walk Inv-loop μ-loop Inv-walk μ-walk
@@ -123,7 +130,7 @@ module _ (c : tie.After-form-width Inv-loop μ-loop Inv-walk μ-walk) where
   width-is = c .form-width .ensures ∙ ap width (c .before .form-of .ensures)
 
   fits-job : turn .loop .at + c .form-width .result ≤ length (job-at w)
-  fits-job = omega (arith, width-is, next-fits (job-at w) (w .walk .offset) (turn .loop .place) (turn .loop .at) (turn .loop .inv) (forms-left (c .before .before)) (reached (loop3 turn) .early .whole))
+  fits-job = omega (arith, width-is, next-fits (job-at w) (byteAt (job-at w) (w .walk .offset)) (w .walk .offset + 1) (turn .loop .place) (turn .loop .at) (turn .loop .inv) (forms-left (c .before .before)) (reached (loop3 turn) .early .whole))
 
 value-is : (c : tie.After-number Inv-loop μ-loop Inv-walk μ-walk) → c .number .result ≡ number (take (width (form (c .before))) (drop (turn (c .before) .loop .at) (job-at (w (c .before)))))
 value-is c = c .number .ensures ∙ ap (λ (n : ℕ). number (take n (drop (turn (c .before) .loop .at) (job-at (w (c .before)))))) (width-is (c .before))
@@ -134,7 +141,7 @@ tested c = c .in-range .ensures ∙ ap (λ (f : Form). formInRange f (c .before 
 turn-place : (c : tie.After-in-range Inv-loop μ-loop Inv-walk μ-walk) → let l = turn (c .before .before) in l .loop .place < 16
 turn-place c =
     let f = c .before .before in
-    place-fits (job-at (w f)) (w f .walk .offset) (turn f .loop .place) (turn f .loop .at) (turn f .loop .inv) (forms-left (f .before .before))
+    place-fits (job-at (w f)) (byteAt (job-at (w f)) (w f .walk .offset)) (w f .walk .offset + 1) (turn f .loop .place) (turn f .loop .at) (turn f .loop .inv) (forms-left (f .before .before))
 
 -- ---- the ways out of the inner loop: the command is out of range, and the operand at fault
 
@@ -146,11 +153,11 @@ outside l o e =
     let t = l .before .before in
     out-of-range (room-at w) (whole w) (job-at w) (lent-at w) (start-at w .args .rows .now) (joints-at w) (w .walk .rows) (place-at w) (w .walk .left) (w .walk .inv) (reached (loop3 l))
     (t .before .before .read .result) (t .before .before .read .ensures)
-    (sym (t .before .command-in-range .ensures) ∙ not-true (t .before .command-in-range .result) (t .if4 .taken)) o e
+    (sym (t .before .command-in-range .ensures) ∙ not-true (t .before .command-in-range .result) (t .if7 .taken)) o e
 
 -- ---- after the tests
 
-module _ (c : tie.Else4 Inv-loop μ-loop Inv-walk μ-walk) where
+module _ (c : tie.Else7 Inv-loop μ-loop Inv-walk μ-walk) where
   abbrev r4 : tie.After-read Inv-loop μ-loop Inv-walk μ-walk
   r4 = c .before .before
 
@@ -158,20 +165,20 @@ module _ (c : tie.Else4 Inv-loop μ-loop Inv-walk μ-walk) where
   w4 = head3 (r4 .before)
 
   in-range-4 : inRange (r4 .read .result) ≡ true
-  in-range-4 = sym (c .before .command-in-range .ensures) ∙ not-false (c .before .command-in-range .result) (c .if4 .left)
+  in-range-4 = sym (c .before .command-in-range .ensures) ∙ not-false (c .before .command-in-range .result) (c .if7 .left)
 
-abbrev else4 : tie.Else6 Inv-loop μ-loop Inv-walk μ-walk → tie.Else4 Inv-loop μ-loop Inv-walk μ-walk
+abbrev else4 : tie.Else9 Inv-loop μ-loop Inv-walk μ-walk → tie.Else7 Inv-loop μ-loop Inv-walk μ-walk
 else4 c = c .before .before .before
 
-abbrev w6 : tie.Else6 Inv-loop μ-loop Inv-walk μ-walk → tie.At-walk Inv-loop μ-loop Inv-walk μ-walk
+abbrev w6 : tie.Else9 Inv-loop μ-loop Inv-walk μ-walk → tie.At-walk Inv-loop μ-loop Inv-walk μ-walk
 w6 c = w4 (else4 c)
 
-present : (c : tie.Else6 Inv-loop μ-loop Inv-walk μ-walk) → let w = w6 c in absentIn (w .walk .state) (w .walk .given) (r4 (else4 c) .read .result) ≡ false
-present c = sym (c .before .absent .ensures) ∙ c .if6 .left
+present : (c : tie.Else9 Inv-loop μ-loop Inv-walk μ-walk) → let w = w6 c in absentIn (w .walk .state) (w .walk .given) (r4 (else4 c) .read .result) ≡ false
+present c = sym (c .before .absent .ensures) ∙ c .if9 .left
 
 -- ---- after the command
 
-abbrev else7 : tie.After-next Inv-loop μ-loop Inv-walk μ-walk → tie.Else7 Inv-loop μ-loop Inv-walk μ-walk
+abbrev else7 : tie.After-next Inv-loop μ-loop Inv-walk μ-walk → tie.Else10 Inv-loop μ-loop Inv-walk μ-walk
 else7 c = c .before
 
 abbrev at-next : tie.After-hold-joint Inv-loop μ-loop Inv-walk μ-walk → tie.After-next Inv-loop μ-loop Inv-walk μ-walk
@@ -187,7 +194,7 @@ module _ (c : tie.After-hold-joint Inv-loop μ-loop Inv-walk μ-walk) where
   abbrev next7 : tie.After-next Inv-loop μ-loop Inv-walk μ-walk
   next7 = at-next c
 
-  abbrev six : tie.Else6 Inv-loop μ-loop Inv-walk μ-walk
+  abbrev six : tie.Else9 Inv-loop μ-loop Inv-walk μ-walk
   six = next7 .before .before
 
   abbrev w7 : tie.At-walk Inv-loop μ-loop Inv-walk μ-walk
@@ -202,6 +209,42 @@ module _ (c : tie.After-hold-joint Inv-loop μ-loop Inv-walk μ-walk) where
   sound-sums : SoundSums (room-at w7) (c .hold-joint .last .1 .0)
   sound-sums = subst (SoundSums (room-at w7)) (sym (c .hold-joint .ensures .1)) (sums-sound (room-at w7) (w7 .walk .sums) (r7 .read .result) (w7 .walk .inv .sums) (in-range-4 (else4 six)))
 
+-- ---- a block
+
+abbrev block-head : tie.Else4 Inv-loop μ-loop Inv-walk μ-walk → tie.At-walk Inv-loop μ-loop Inv-walk μ-walk
+block-head c = c .before .before .before .before .before .before
+
+is-block : (byte : ℕ) → byte ≡ 11 → isBlock byte ≡ true
+is-block byte e = rw e
+
+block-reached : (c : tie.Else4 Inv-loop μ-loop Inv-walk μ-walk) → let w = block-head c in BlockReached (job-at w) (place-at w) (w .walk .left)
+block-reached c =
+    let w = block-head c in
+    let i = c .before .before .before .before in
+    record {
+      some-left = positive (w .walk .left) (i .before .if1 .left);
+      inside = i .if2 .left;
+      many = is-block (byteAt (job-at w) (w .walk .offset)) (c .before .before .if3 .taken);
+      early = block-early-none (job-at w) (place-at w) (sym (c .before .block-fault .ensures) ∙ c .if4 .left);
+    }
+
+-- at most 64 sets
+few-sets : (c : tie.Else4 Inv-loop μ-loop Inv-walk μ-walk) → let w = block-head c in countAt (job-at w) (w .walk .offset) ≤ 64
+few-sets c = let w = block-head c in count-range (countAt (job-at w) (w .walk .offset)) (block-reached c .early .count-in-range) .1
+
+abbrev block-sets : tie.After-emit-sets Inv-loop μ-loop Inv-walk μ-walk → tie.Else5 Inv-loop μ-loop Inv-walk μ-walk
+block-sets c = c .before .before
+
+abbrev block-else : tie.Else5 Inv-loop μ-loop Inv-walk μ-walk → tie.Else4 Inv-loop μ-loop Inv-walk μ-walk
+block-else c = c .before .before .before
+
+ranged : (f : tie.Else5 Inv-loop μ-loop Inv-walk μ-walk) → let w = block-head (block-else f) in allInRange (setsOf (job-at w) (w .walk .offset)) ≡ true
+ranged f =
+    let e = block-else f in
+    let w = block-head e in
+    sets-ranged (room-at w) (whole w) (job-at w) (lent-at w) (start-at w .args .rows .now) (joints-at w) (w .walk .rows) (place-at w) (w .walk .left) (w .walk .inv) (block-reached e)
+    (f .before .set-named .result) (f .before .set-named .ensures) (f .if5 .left)
+
 walk-holds : tie.Need-walk-holds Inv-loop μ-loop Inv-walk μ-walk
 walk-holds c =
     let s = c .before .before .before .before .before in
@@ -211,8 +254,72 @@ walk-holds c =
 shared-slice-read-byte : tie.Need-shared-slice-read-byte Inv-loop μ-loop Inv-walk μ-walk
 shared-slice-read-byte c = c .before .if2 .left
 
+block-fault-requires : tie.Need-block-fault-requires Inv-loop μ-loop Inv-walk μ-walk
+block-fault-requires c κs = let i = c .before .before in (i .if2 .left, i .before .before .walk .inv .count)
+
+add-sets : tie.Need-add-sets Inv-loop μ-loop Inv-walk μ-walk
+add-sets c = omega (arith, block-reached c .early .counted, start-at (block-head c) .good .0)
+
+shared-slice-read-sets : tie.Need-shared-slice-read-sets Inv-loop μ-loop Inv-walk μ-walk
+shared-slice-read-sets c = block-reached (c .before) .early .counted
+
+cast-sets : tie.Need-cast-sets Inv-loop μ-loop Inv-walk μ-walk
+cast-sets c = omega (arith, few-sets (c .before))
+
+add-set-named : tie.Need-add-set-named Inv-loop μ-loop Inv-walk μ-walk
+add-set-named c = omega (arith, block-reached (c .before) .early .whole, start-at (block-head (c .before)) .good .0)
+
+set-named-requires : tie.Need-set-named-requires Inv-loop μ-loop Inv-walk μ-walk
+set-named-requires c κs = (block-reached (c .before) .early .whole, few-sets (c .before))
+
+add-emit-sets : tie.Need-add-emit-sets Inv-loop μ-loop Inv-walk μ-walk
+add-emit-sets c = let e = block-else (c .before) in omega (arith, block-reached e .early .whole, start-at (block-head e) .good .0)
+
+emit-sets-requires : tie.Need-emit-sets-requires Inv-loop μ-loop Inv-walk μ-walk
+emit-sets-requires c κs =
+    let f = c .before in
+    let e = block-else f in
+    let w = block-head e in (
+      start-at w .pre .0,
+      (
+        record { wall = w .walk .inv .state .wall; whole = block-reached e .early .whole; in-range = ranged f },
+        omega (arith, w .walk .inv .written, block-reached e .early .few),
+      ),
+    )
+
+add-offset : tie.Need-add-offset Inv-loop μ-loop Inv-walk μ-walk
+add-offset c = let e = block-else (block-sets (c .before)) in omega (arith, block-reached e .early .whole, start-at (block-head e) .good .0)
+
+mul-offset : tie.Need-mul-offset Inv-loop μ-loop Inv-walk μ-walk
+mul-offset c = omega (arith, few-sets (block-else (block-sets (c .before))))
+
+add-offset-2 : tie.Need-add-offset-2 Inv-loop μ-loop Inv-walk μ-walk
+add-offset-2 c = let e = block-else (block-sets (c .before)) in omega (arith, block-reached e .early .whole, start-at (block-head e) .good .0)
+
+cast-count : tie.Need-cast-count Inv-loop μ-loop Inv-walk μ-walk
+cast-count c = omega (arith, few-sets (block-else (block-sets (c .before))))
+
+add-count : tie.Need-add-count Inv-loop μ-loop Inv-walk μ-walk
+add-count c = omega (arith, block-reached (block-else (block-sets (c .before))) .early .few)
+
+sub-left : tie.Need-sub-left Inv-loop μ-loop Inv-walk μ-walk
+sub-left c = block-reached (block-else (block-sets (c .before))) .some-left
+
+walk-less : tie.Need-walk-less Inv-loop μ-loop Inv-walk μ-walk
+walk-less c = omega (arith, block-reached (block-else (block-sets (c .before))) .some-left)
+
+walk-again : tie.Need-walk-again Inv-loop μ-loop Inv-walk μ-walk
+walk-again c =
+    let m = c .before in
+    let f = block-sets m in
+    let e = block-else f in
+    let w = block-head e in
+    block-on (room-at w) (whole w) (job-at w) (lent-at w) (start-at w .args .rows .now) (joints-at w) (w .walk .rows) (place-at w) (w .walk .left) (w .walk .inv) (block-reached e)
+    (f .before .set-named .result) (f .before .set-named .ensures) (f .if5 .left)
+    (m .emit-sets .last .0) _ _ (m .emit-sets .result) (m .emit-sets .ensures .1) (m .emit-sets .ensures .0) refl refl
+
 early-fault-requires : tie.Need-early-fault-requires Inv-loop μ-loop Inv-walk μ-walk
-early-fault-requires c κs = c .before .if2 .left
+early-fault-requires c κs = c .before .before .if2 .left
 
 read-requires : tie.Need-read-requires Inv-loop μ-loop Inv-walk μ-walk
 read-requires c κs = (refl, reached c .early .whole)
@@ -227,7 +334,7 @@ add-at : tie.Need-add-at Inv-loop μ-loop Inv-walk μ-walk
 add-at c = let e = c .before .before .before .before in omega (arith, reached e .inside, start-at (head3 e) .good .0)
 
 loop-holds : tie.Need-loop-holds Inv-loop μ-loop Inv-walk μ-walk
-loop-holds c = let w = head3 (c .before .before .before .before) in begins (job-at w) (w .walk .offset)
+loop-holds c = let w = head3 (c .before .before .before .before) in begins (job-at w) (byteAt (job-at w) (w .walk .offset)) (w .walk .offset + 1)
 
 form-of-requires : tie.Need-form-of-requires Inv-loop μ-loop Inv-walk μ-walk
 form-of-requires c κs = tt
@@ -241,8 +348,8 @@ number-requires c κs = record { inside = fits-job c; bytes = rw (width-is c) (f
 in-range-requires : tie.Need-in-range-requires Inv-loop μ-loop Inv-walk μ-walk
 in-range-requires c κs = tt
 
-cast-t35 : tie.Need-cast-t35 Inv-loop μ-loop Inv-walk μ-walk
-cast-t35 c = omega (arith, turn-place (c .before))
+cast-t46 : tie.Need-cast-t46 Inv-loop μ-loop Inv-walk μ-walk
+cast-t46 c = omega (arith, turn-place (c .before))
 
 add-place : tie.Need-add-place Inv-loop μ-loop Inv-walk μ-walk
 add-place c = omega (arith, turn-place (c .before))
@@ -257,9 +364,9 @@ loop-again : tie.Need-loop-again Inv-loop μ-loop Inv-walk μ-walk
 loop-again c =
     let v = c .before .before in
     let f = v .before in
-    subst (λ (n : ℕ). Scanning (job-at (w f)) (w f .walk .offset) (turn f .loop .place + 1) (turn f .loop .at + n)) (sym (width-is f))
-    (scans-on (job-at (w f)) (w f .walk .offset) (turn f .loop .place) (turn f .loop .at) (turn f .loop .inv) (forms-left (f .before .before)) (v .number .result) (value-is v)
-    (sym (tested (c .before)) ∙ not-false (c .before .in-range .result) (c .if5 .left)))
+    subst (λ (n : ℕ). Scanning (job-at (w f)) (byteAt (job-at (w f)) (w f .walk .offset)) (w f .walk .offset + 1) (turn f .loop .place + 1) (turn f .loop .at + n)) (sym (width-is f))
+    (scans-on (job-at (w f)) (byteAt (job-at (w f)) (w f .walk .offset)) (w f .walk .offset + 1) (turn f .loop .place) (turn f .loop .at) (turn f .loop .inv) (forms-left (f .before .before)) (v .number .result) (value-is v)
+    (sym (tested (c .before)) ∙ not-false (c .before .in-range .result) (c .if8 .left)))
 
 relation-names-requires : tie.Need-relation-names-requires Inv-loop μ-loop Inv-walk μ-walk
 relation-names-requires c κs = tt
@@ -267,11 +374,11 @@ relation-names-requires c κs = tt
 absent-requires : tie.Need-absent-requires Inv-loop μ-loop Inv-walk μ-walk
 absent-requires c κs = w4 (c .before) .walk .inv .given
 
-add-if8 : tie.Need-add-if8 Inv-loop μ-loop Inv-walk μ-walk
-add-if8 c = let w = w6 (c .before) in omega (arith, reached (r4 (else4 (c .before)) .before) .inside, start-at w .good .0)
+add-if11 : tie.Need-add-if11 Inv-loop μ-loop Inv-walk μ-walk
+add-if11 c = let w = w6 (c .before) in omega (arith, reached (r4 (else4 (c .before)) .before) .inside, start-at w .good .0)
 
-add-t43 : tie.Need-add-t43 Inv-loop μ-loop Inv-walk μ-walk
-add-t43 c = omega (arith, c .if8 .taken, start-at (w6 (c .before .before)) .good .0)
+add-t54 : tie.Need-add-t54 Inv-loop μ-loop Inv-walk μ-walk
+add-t54 c = omega (arith, c .if11 .taken, start-at (w6 (c .before .before)) .good .0)
 
 next-requires : tie.Need-next-requires Inv-loop μ-loop Inv-walk μ-walk
 next-requires c κs = let s = c .before in record { state = w6 s .walk .inv .state; in-range = in-range-4 (else4 s) }
@@ -294,26 +401,26 @@ emit-requires c κs =
       ),
     )
 
-add-offset : tie.Need-add-offset Inv-loop μ-loop Inv-walk μ-walk
-add-offset c = let h = at-emit (c .before) in omega (arith, reached (r7 h .before) .inside, start-at (w7 h) .good .0)
+add-offset-3 : tie.Need-add-offset-3 Inv-loop μ-loop Inv-walk μ-walk
+add-offset-3 c = let h = at-emit (c .before) in omega (arith, reached (r7 h .before) .inside, start-at (w7 h) .good .0)
 
 operands-width-requires : tie.Need-operands-width-requires Inv-loop μ-loop Inv-walk μ-walk
 operands-width-requires c κs = tt
 
-add-offset-2 : tie.Need-add-offset-2 Inv-loop μ-loop Inv-walk μ-walk
-add-offset-2 c = let h = at-emit (emitted c) in omega (arith, c .operands-width .ensures, reached (r7 h .before) .early .whole, start-at (w7 h) .good .0)
+add-offset-4 : tie.Need-add-offset-4 Inv-loop μ-loop Inv-walk μ-walk
+add-offset-4 c = let h = at-emit (emitted c) in omega (arith, c .operands-width .ensures, reached (r7 h .before) .early .whole, start-at (w7 h) .good .0)
 
-add-count : tie.Need-add-count Inv-loop μ-loop Inv-walk μ-walk
-add-count c = omega (arith, w7 (at-emit (emitted c)) .walk .inv .count)
+add-count-2 : tie.Need-add-count-2 Inv-loop μ-loop Inv-walk μ-walk
+add-count-2 c = omega (arith, w7 (at-emit (emitted c)) .walk .inv .count)
 
-sub-left : tie.Need-sub-left Inv-loop μ-loop Inv-walk μ-walk
-sub-left c = reached (r7 (at-emit (emitted c)) .before) .some-left
+sub-left-2 : tie.Need-sub-left-2 Inv-loop μ-loop Inv-walk μ-walk
+sub-left-2 c = reached (r7 (at-emit (emitted c)) .before) .some-left
 
-walk-less : tie.Need-walk-less Inv-loop μ-loop Inv-walk μ-walk
-walk-less c = omega (arith, reached (r7 (at-emit (emitted c)) .before) .some-left)
+walk-less-2 : tie.Need-walk-less-2 Inv-loop μ-loop Inv-walk μ-walk
+walk-less-2 c = omega (arith, reached (r7 (at-emit (emitted c)) .before) .some-left)
 
-walk-again : tie.Need-walk-again Inv-loop μ-loop Inv-walk μ-walk
-walk-again c =
+walk-again-2 : tie.Need-walk-again-2 Inv-loop μ-loop Inv-walk μ-walk
+walk-again-2 c =
     let e = emitted c in
     let h = at-emit e in
     let n = next7 h in
@@ -321,7 +428,7 @@ walk-again c =
     let w = w7 h in
     let r = r7 h in
     on (room-at w) (whole w) (job-at w) (lent-at w) (start-at w .args .rows .now) (joints-at w) (w .walk .rows) (place-at w) (w .walk .left) (w .walk .inv) (reached (r .before))
-    (r .read .result) (r .read .ensures) (in-range-4 (else4 s)) (present s) (n .before .if7 .left)
+    (r .read .result) (r .read .ensures) (in-range-4 (else4 s)) (present s) (n .before .if10 .left)
     (h .hold-joint .last .0) (h .hold-joint .last .1 .0) (e .emit .last .0) (w .walk .offset + 1 + c .operands-width .result) (e .emit .result) (n .next .result)
     (h .hold-joint .ensures .0) (h .hold-joint .ensures .1) (n .next .ensures) (e .emit .ensures .1) (e .emit .ensures .0) (ap (λ (k : ℕ). w .walk .offset + 1 + k) (c .operands-width .ensures))
 
@@ -354,104 +461,139 @@ returns-2 c =
     ends-short (room-at w) (whole w) (job-at w) (lent-at w) (start-at w .args .rows .now) (joints-at w) (w .walk .rows) (place-at w) (w .walk .left) (w .walk .inv) (positive (w .walk .left) (c .before .if1 .left)) (c .if2 .taken)
 
 same-length-7 : tie.Need-same-length-7 Inv-loop μ-loop Inv-walk μ-walk
-same-length-7 c = (c .before .before .before .before .before) .walk .inv .given-kept
+same-length-7 c = c .before .before .before .before .before .before .walk .inv .given-kept
 
 same-length-8 : tie.Need-same-length-8 Inv-loop μ-loop Inv-walk μ-walk
-same-length-8 c = (c .before .before .before .before .before) .walk .inv .sums-kept
+same-length-8 c = c .before .before .before .before .before .before .walk .inv .sums-kept
 
 same-length-9 : tie.Need-same-length-9 Inv-loop μ-loop Inv-walk μ-walk
-same-length-9 c = (c .before .before .before .before .before) .walk .inv .rows-kept
+same-length-9 c = c .before .before .before .before .before .before .walk .inv .rows-kept
 
 returns-3 : tie.Need-returns-3 Inv-loop μ-loop Inv-walk μ-walk
 returns-3 c =
-    let w = c .before .before .before .before .before in
-    let i = c .before .before .before in
-    refused-early (room-at w) (whole w) (job-at w) (lent-at w) (start-at w .args .rows .now) (joints-at w) (w .walk .rows) (place-at w) (w .walk .left) (w .walk .inv) (positive (w .walk .left) (i .before .if1 .left)) (i .if2 .left) (c .before .early-fault .result) (c .before .early-fault .ensures) (c .if3 .taken)
+    let i = c .before .before .before .before in
+    let w = i .before .before in
+    block-refused-early (room-at w) (whole w) (job-at w) (lent-at w) (start-at w .args .rows .now) (joints-at w) (w .walk .rows) (place-at w) (w .walk .left) (w .walk .inv) (positive (w .walk .left) (i .before .if1 .left)) (i .if2 .left)
+    (is-block (byteAt (job-at w) (w .walk .offset)) (c .before .before .if3 .taken)) (c .before .block-fault .result) (c .before .block-fault .ensures) (c .if4 .taken)
 
 same-length-10 : tie.Need-same-length-10 Inv-loop μ-loop Inv-walk μ-walk
-same-length-10 c = (loop-head (turn (c .before .before .before))) .walk .inv .given-kept
+same-length-10 c = block-head (c .before .before .before) .walk .inv .given-kept
 
 same-length-11 : tie.Need-same-length-11 Inv-loop μ-loop Inv-walk μ-walk
-same-length-11 c = (loop-head (turn (c .before .before .before))) .walk .inv .sums-kept
+same-length-11 c = block-head (c .before .before .before) .walk .inv .sums-kept
 
 same-length-12 : tie.Need-same-length-12 Inv-loop μ-loop Inv-walk μ-walk
-same-length-12 c = (loop-head (turn (c .before .before .before))) .walk .inv .rows-kept
+same-length-12 c = block-head (c .before .before .before) .walk .inv .rows-kept
 
 returns-4 : tie.Need-returns-4 Inv-loop μ-loop Inv-walk μ-walk
 returns-4 c =
+    let e = c .before .before .before in
+    let w = block-head e in
+    set-refused (room-at w) (whole w) (job-at w) (lent-at w) (start-at w .args .rows .now) (joints-at w) (w .walk .rows) (place-at w) (w .walk .left) (w .walk .inv) (block-reached e)
+    (c .before .set-named .result) (c .before .set-named .ensures) (c .if5 .taken)
+
+same-length-13 : tie.Need-same-length-13 Inv-loop μ-loop Inv-walk μ-walk
+same-length-13 c = head5 c .walk .inv .given-kept
+
+same-length-14 : tie.Need-same-length-14 Inv-loop μ-loop Inv-walk μ-walk
+same-length-14 c = head5 c .walk .inv .sums-kept
+
+same-length-15 : tie.Need-same-length-15 Inv-loop μ-loop Inv-walk μ-walk
+same-length-15 c = head5 c .walk .inv .rows-kept
+
+returns-5 : tie.Need-returns-5 Inv-loop μ-loop Inv-walk μ-walk
+returns-5 c =
+    let w = head5 c in
+    let i = c .before .before .before .before in
+    refused-early (room-at w) (whole w) (job-at w) (lent-at w) (start-at w .args .rows .now) (joints-at w) (w .walk .rows) (place-at w) (w .walk .left) (w .walk .inv) (positive (w .walk .left) (i .before .if1 .left)) (i .if2 .left)
+    (other-byte (byteAt (job-at w) (w .walk .offset)) (c .before .before .if3 .left)) (c .before .early-fault .result) (c .before .early-fault .ensures) (c .if6 .taken)
+
+same-length-16 : tie.Need-same-length-16 Inv-loop μ-loop Inv-walk μ-walk
+same-length-16 c = (loop-head (turn (c .before .before .before))) .walk .inv .given-kept
+
+same-length-17 : tie.Need-same-length-17 Inv-loop μ-loop Inv-walk μ-walk
+same-length-17 c = (loop-head (turn (c .before .before .before))) .walk .inv .sums-kept
+
+same-length-18 : tie.Need-same-length-18 Inv-loop μ-loop Inv-walk μ-walk
+same-length-18 c = (loop-head (turn (c .before .before .before))) .walk .inv .rows-kept
+
+returns-6 : tie.Need-returns-6 Inv-loop μ-loop Inv-walk μ-walk
+returns-6 c =
     let v = c .before .before in
     let f = v .before in
     let l = turn f in
     outside l (l .loop .place)
-    (found (job-at (w f)) (w f .walk .offset) (l .loop .place) (l .loop .at) (l .loop .inv) (forms-left (f .before .before)) (v .number .result) (value-is v) (bytes-at (w f)) (reached (loop3 l) .early .known-byte)
-    (sym (tested (c .before)) ∙ not-true (c .before .in-range .result) (c .if5 .taken)))
-
-same-length-13 : tie.Need-same-length-13 Inv-loop μ-loop Inv-walk μ-walk
-same-length-13 c = (loop-head (c .before .before)) .walk .inv .given-kept
-
-same-length-14 : tie.Need-same-length-14 Inv-loop μ-loop Inv-walk μ-walk
-same-length-14 c = (loop-head (c .before .before)) .walk .inv .sums-kept
-
-same-length-15 : tie.Need-same-length-15 Inv-loop μ-loop Inv-walk μ-walk
-same-length-15 c = (loop-head (c .before .before)) .walk .inv .rows-kept
-
-returns-5 : tie.Need-returns-5 Inv-loop μ-loop Inv-walk μ-walk
-returns-5 c =
-    let l = c .before .before in
-    let w = loop-head l in
-    outside l (c .relation-names .result)
-    (scanned (job-at w) (w .walk .offset) (l .loop .place) (l .loop .at) (l .loop .inv) (omega (arith, c .before .loop-test .left, l .before .operand-count .ensures)) (bytes-at w) (reached (loop3 l) .early .known-byte)
-    ∙ sym (c .relation-names .ensures))
-
-same-length-16 : tie.Need-same-length-16 Inv-loop μ-loop Inv-walk μ-walk
-same-length-16 c = (w4 (c .before .before .before)) .walk .inv .given-kept
-
-same-length-17 : tie.Need-same-length-17 Inv-loop μ-loop Inv-walk μ-walk
-same-length-17 c = (w4 (c .before .before .before)) .walk .inv .sums-kept
-
-same-length-18 : tie.Need-same-length-18 Inv-loop μ-loop Inv-walk μ-walk
-same-length-18 c = (w4 (c .before .before .before)) .walk .inv .rows-kept
-
-returns-6 : tie.Need-returns-6 Inv-loop μ-loop Inv-walk μ-walk
-returns-6 c =
-    let e = c .before .before .before in
-    let w = w4 e in
-    absence (room-at w) (whole w) (job-at w) (lent-at w) (start-at w .args .rows .now) (joints-at w) (w .walk .rows) (place-at w) (w .walk .left) (w .walk .inv) (reached (r4 e .before))
-    (r4 e .read .result) (r4 e .read .ensures) (in-range-4 e) (sym (c .before .absent .ensures) ∙ c .if6 .taken)
+    (found (job-at (w f)) (byteAt (job-at (w f)) (w f .walk .offset)) (w f .walk .offset + 1) (l .loop .place) (l .loop .at) (l .loop .inv) (forms-left (f .before .before)) (v .number .result) (value-is v)
+    (commandAt (job-at (w f)) (w f .walk .offset)) (command-scanned (job-at (w f)) (w f .walk .offset) (bytes-at (w f)) (reached (loop3 l) .early .known-byte))
+    (sym (tested (c .before)) ∙ not-true (c .before .in-range .result) (c .if8 .taken)))
 
 same-length-19 : tie.Need-same-length-19 Inv-loop μ-loop Inv-walk μ-walk
-same-length-19 c = (w6 (c .before .before)) .walk .inv .given-kept
+same-length-19 c = (loop-head (c .before .before)) .walk .inv .given-kept
 
 same-length-20 : tie.Need-same-length-20 Inv-loop μ-loop Inv-walk μ-walk
-same-length-20 c = (w6 (c .before .before)) .walk .inv .sums-kept
+same-length-20 c = (loop-head (c .before .before)) .walk .inv .sums-kept
 
 same-length-21 : tie.Need-same-length-21 Inv-loop μ-loop Inv-walk μ-walk
-same-length-21 c = (w6 (c .before .before)) .walk .inv .rows-kept
+same-length-21 c = (loop-head (c .before .before)) .walk .inv .rows-kept
 
 returns-7 : tie.Need-returns-7 Inv-loop μ-loop Inv-walk μ-walk
 returns-7 c =
+    let l = c .before .before in
+    let w = loop-head l in
+    outside l (c .relation-names .result)
+    (scanned (job-at w) (byteAt (job-at w) (w .walk .offset)) (w .walk .offset + 1) (l .loop .place) (l .loop .at) (l .loop .inv) (omega (arith, c .before .loop-test .left, l .before .operand-count .ensures))
+    (commandAt (job-at w) (w .walk .offset)) (command-scanned (job-at w) (w .walk .offset) (bytes-at w) (reached (loop3 l) .early .known-byte))
+    ∙ sym (c .relation-names .ensures))
+
+same-length-22 : tie.Need-same-length-22 Inv-loop μ-loop Inv-walk μ-walk
+same-length-22 c = (w4 (c .before .before .before)) .walk .inv .given-kept
+
+same-length-23 : tie.Need-same-length-23 Inv-loop μ-loop Inv-walk μ-walk
+same-length-23 c = (w4 (c .before .before .before)) .walk .inv .sums-kept
+
+same-length-24 : tie.Need-same-length-24 Inv-loop μ-loop Inv-walk μ-walk
+same-length-24 c = (w4 (c .before .before .before)) .walk .inv .rows-kept
+
+returns-8 : tie.Need-returns-8 Inv-loop μ-loop Inv-walk μ-walk
+returns-8 c =
+    let e = c .before .before .before in
+    let w = w4 e in
+    absence (room-at w) (whole w) (job-at w) (lent-at w) (start-at w .args .rows .now) (joints-at w) (w .walk .rows) (place-at w) (w .walk .left) (w .walk .inv) (reached (r4 e .before))
+    (r4 e .read .result) (r4 e .read .ensures) (in-range-4 e) (sym (c .before .absent .ensures) ∙ c .if9 .taken)
+
+same-length-25 : tie.Need-same-length-25 Inv-loop μ-loop Inv-walk μ-walk
+same-length-25 c = (w6 (c .before .before)) .walk .inv .given-kept
+
+same-length-26 : tie.Need-same-length-26 Inv-loop μ-loop Inv-walk μ-walk
+same-length-26 c = (w6 (c .before .before)) .walk .inv .sums-kept
+
+same-length-27 : tie.Need-same-length-27 Inv-loop μ-loop Inv-walk μ-walk
+same-length-27 c = (w6 (c .before .before)) .walk .inv .rows-kept
+
+returns-9 : tie.Need-returns-9 Inv-loop μ-loop Inv-walk μ-walk
+returns-9 c =
     let s = c .before .before in
     let e = else4 s in
     let w = w4 e in
     bytes-after (room-at w) (whole w) (job-at w) (lent-at w) (start-at w .args .rows .now) (joints-at w) (w .walk .rows) (place-at w) (w .walk .left) (w .walk .inv) (reached (r4 e .before))
-    (r4 e .read .result) (r4 e .read .ensures) (in-range-4 e) (present s) (c .before .if7 .taken) (c .if8 .taken)
+    (r4 e .read .result) (r4 e .read .ensures) (in-range-4 e) (present s) (c .before .if10 .taken) (c .if11 .taken)
 
-same-length-22 : tie.Need-same-length-22 Inv-loop μ-loop Inv-walk μ-walk
-same-length-22 c = (w6 (c .before .before)) .walk .inv .given-kept
+same-length-28 : tie.Need-same-length-28 Inv-loop μ-loop Inv-walk μ-walk
+same-length-28 c = (w6 (c .before .before)) .walk .inv .given-kept
 
-same-length-23 : tie.Need-same-length-23 Inv-loop μ-loop Inv-walk μ-walk
-same-length-23 c = (w6 (c .before .before)) .walk .inv .sums-kept
+same-length-29 : tie.Need-same-length-29 Inv-loop μ-loop Inv-walk μ-walk
+same-length-29 c = (w6 (c .before .before)) .walk .inv .sums-kept
 
-same-length-24 : tie.Need-same-length-24 Inv-loop μ-loop Inv-walk μ-walk
-same-length-24 c = (w6 (c .before .before)) .walk .inv .rows-kept
+same-length-30 : tie.Need-same-length-30 Inv-loop μ-loop Inv-walk μ-walk
+same-length-30 c = (w6 (c .before .before)) .walk .inv .rows-kept
 
-returns-8 : tie.Need-returns-8 Inv-loop μ-loop Inv-walk μ-walk
-returns-8 c =
+returns-10 : tie.Need-returns-10 Inv-loop μ-loop Inv-walk μ-walk
+returns-10 c =
     let s = c .before .before in
     let e = else4 s in
     let w = w4 e in
     done (room-at w) (whole w) (job-at w) (lent-at w) (start-at w .args .rows .now) (joints-at w) (w .walk .rows) (place-at w) (w .walk .left) (w .walk .inv) (reached (r4 e .before))
-    (r4 e .read .result) (r4 e .read .ensures) (in-range-4 e) (present s) (c .before .if7 .taken) (c .if8 .left)
+    (r4 e .read .result) (r4 e .read .ensures) (in-range-4 e) (present s) (c .before .if10 .taken) (c .if11 .left)
 
 pub walk-spec : {M : Type 1} → statement M
 walk-spec =
@@ -463,6 +605,22 @@ walk-spec =
     μ-walk
     walk-holds
     shared-slice-read-byte
+    block-fault-requires
+    add-sets
+    shared-slice-read-sets
+    cast-sets
+    add-set-named
+    set-named-requires
+    add-emit-sets
+    emit-sets-requires
+    add-offset
+    mul-offset
+    add-offset-2
+    cast-count
+    add-count
+    sub-left
+    walk-less
+    walk-again
     early-fault-requires
     read-requires
     command-in-range-requires
@@ -473,25 +631,25 @@ walk-spec =
     form-width-requires
     number-requires
     in-range-requires
-    cast-t35
+    cast-t46
     add-place
     add-at-2
     loop-less
     loop-again
     relation-names-requires
     absent-requires
-    add-if8
-    add-t43
+    add-if11
+    add-t54
     next-requires
     hold-joint-requires
     emit-requires
-    add-offset
+    add-offset-3
     operands-width-requires
-    add-offset-2
-    add-count
-    sub-left
-    walk-less
-    walk-again
+    add-offset-4
+    add-count-2
+    sub-left-2
+    walk-less-2
+    walk-again-2
     same-length
     same-length-2
     same-length-3
@@ -523,4 +681,12 @@ walk-spec =
     same-length-22
     same-length-23
     same-length-24
-    returns-8)
+    returns-8
+    same-length-25
+    same-length-26
+    same-length-27
+    returns-9
+    same-length-28
+    same-length-29
+    same-length-30
+    returns-10)

@@ -6,6 +6,7 @@ use Rattle.layout.specs.Forms.{width}
 use Rattle.layout.specs.Layouts.{formsOf, formsIn}
 use Rattle.layout.proofs.Numbers.{returned}
 use Rattle.format.specs.declared.Command.the-variants.{Beam}
+use Rattle.blocks.specs.FileCommands.{one}
 use Rattle.numbers.specs.BigEndian.{bigEndian}
 use Rattle.writing.specs.Bytes.{operandBytes, bytesOf}
 use Rattle.writing.proofs.Promised.{outside, short, done}
@@ -19,13 +20,13 @@ beam-in-range-requires c κs = search needs
 returns : tie.Need-returns
 returns c =
     let s = c .before .before .before .args in
-    outside (Beam (s .b)) (s .bytes .now) (c .before .beam-in-range .ensures) (c .if1 .taken)
+    outside (one (Beam (s .b))) (s .bytes .now) (c .before .beam-in-range .ensures) (c .if1 .taken)
 
 returns-2 : tie.Need-returns-2
 unfolding bytesOf operandBytes bigEndian formsOf formsIn width
 returns-2 c =
     let s = c .before .before .before .before .args in
-    short (Beam (s .b)) (s .bytes .now) (c .before .before .beam-in-range .ensures) (c .before .if1 .left) (c .if2 .taken)
+    short (one (Beam (s .b))) (s .bytes .now) (c .before .before .beam-in-range .ensures) (c .before .if1 .left) (c .if2 .taken)
 
 put-one-requires : tie.Need-put-one-requires
 put-one-requires c κs = search needs
@@ -65,7 +66,7 @@ returns-3 c =
     let p4 = behind p3 (rw (returned (s4 .before .struct-told .given .1 .1 .1 .1 .1 .0 .1)) at (s4 .put-signed .ensures)) refl (omega arith) in
     let p5 = behind p4 (s5 .put-four2 .ensures) refl (omega arith) in
     let p6 = behind p5 (s6 .put-four3 .ensures) refl (omega arith) in
-    done (Beam (s .b)) (s .bytes .now) (tested .before .before .beam-in-range .ensures) (tested .before .if1 .left)
+    done (one (Beam (s .b))) (s .bytes .now) (tested .before .before .beam-in-range .ensures) (tested .before .if1 .left)
     (record { sfits = s4 .before .struct-told .given .1 .1 .1 .1 .1 .0 .1 })
     (omega (arith, tested .if2 .left))
     p6

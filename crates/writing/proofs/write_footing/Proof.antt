@@ -5,6 +5,7 @@ use Rattle.slices.proofs.Writing.{behind}
 use Rattle.layout.specs.Forms.{width}
 use Rattle.layout.specs.Layouts.{formsOf, formsIn}
 use Rattle.format.specs.declared.Command.the-variants.{Footing}
+use Rattle.blocks.specs.FileCommands.{one}
 use Rattle.numbers.specs.BigEndian.{bigEndian}
 use Rattle.writing.specs.Bytes.{operandBytes, bytesOf}
 use Rattle.writing.proofs.Promised.{outside, short, done}
@@ -18,13 +19,13 @@ footing-in-range-requires c κs = search needs
 returns : tie.Need-returns
 returns c =
     let s = c .before .before .before .args in
-    outside (Footing (s .f)) (s .bytes .now) (c .before .footing-in-range .ensures) (c .if1 .taken)
+    outside (one (Footing (s .f))) (s .bytes .now) (c .before .footing-in-range .ensures) (c .if1 .taken)
 
 returns-2 : tie.Need-returns-2
 unfolding bytesOf operandBytes bigEndian formsOf formsIn width
 returns-2 c =
     let s = c .before .before .before .before .args in
-    short (Footing (s .f)) (s .bytes .now) (c .before .before .footing-in-range .ensures) (c .before .if1 .left) (c .if2 .taken)
+    short (one (Footing (s .f))) (s .bytes .now) (c .before .before .footing-in-range .ensures) (c .before .if1 .left) (c .if2 .taken)
 
 put-one-requires : tie.Need-put-one-requires
 put-one-requires c κs = search needs
@@ -65,7 +66,7 @@ returns-3 c =
     let p5 = behind p4 (s5 .put-four2 .ensures) refl (omega arith) in
     let p6 = behind p5 (s6 .put-one2 .ensures) refl (omega arith) in
     let k = start .good .0 .1 .1 .1 .1 .1 .1 in
-    done (Footing (s .f)) (s .bytes .now) (tested .before .before .footing-in-range .ensures) (tested .before .if1 .left)
+    done (one (Footing (s .f))) (s .bytes .now) (tested .before .before .footing-in-range .ensures) (tested .before .if1 .left)
     (record {
       nv = record { sfits = k .0 .1 };
       ne = record { sfits = k .1 .0 .1 };

@@ -7,6 +7,7 @@ use Rattle.layout.specs.Layouts.{formsOf, formsIn}
 use Rattle.layout.proofs.Numbers.{returned}
 use Rattle.format.specs.declared.Command.the-variants.{Hingeless}
 use Rattle.format.specs.Commands.{related, allInRange, inRange}
+use Rattle.blocks.specs.FileCommands.{one}
 use Rattle.numbers.specs.BigEndian.{bigEndian}
 use Rattle.writing.specs.Bytes.{operandBytes, bytesOf}
 use Rattle.writing.proofs.Promised.{outside, short, done}
@@ -21,13 +22,13 @@ returns : tie.Need-returns
 unfolding inRange allInRange related formInRange formsOf formsIn
 returns c =
     let s = c .before .before .before .args in
-    outside (Hingeless (s .id1) (s .id2) (s .m)) (s .bytes .now) (c .before .hingeless-in-range .ensures) (c .if1 .taken)
+    outside (one (Hingeless (s .id1) (s .id2) (s .m))) (s .bytes .now) (c .before .hingeless-in-range .ensures) (c .if1 .taken)
 
 returns-2 : tie.Need-returns-2
 unfolding bytesOf operandBytes bigEndian formsOf formsIn width inRange allInRange related formInRange
 returns-2 c =
     let s = c .before .before .before .before .args in
-    short (Hingeless (s .id1) (s .id2) (s .m)) (s .bytes .now) (c .before .before .hingeless-in-range .ensures) (c .before .if1 .left) (c .if2 .taken)
+    short (one (Hingeless (s .id1) (s .id2) (s .m))) (s .bytes .now) (c .before .before .hingeless-in-range .ensures) (c .before .if1 .left) (c .if2 .taken)
 
 put-one-requires : tie.Need-put-one-requires
 put-one-requires c κs = search needs
@@ -77,7 +78,7 @@ returns-3 c =
     let p6 = behind p5 (s6 .put-four3 .ensures) refl (omega arith) in
     let p7 = behind p6 (rw (returned (s7 .before .struct-told .given .1 .1 .1 .0 .1)) at (s7 .put-signed .ensures)) refl (omega arith) in
     let p8 = behind p7 (s8 .put-four4 .ensures) refl (omega arith) in
-    done (Hingeless (s .id1) (s .id2) (s .m)) (s .bytes .now) (tested .before .before .hingeless-in-range .ensures) (tested .before .if1 .left)
+    done (one (Hingeless (s .id1) (s .id2) (s .m))) (s .bytes .now) (tested .before .before .hingeless-in-range .ensures) (tested .before .if1 .left)
     ((start .fits .id1 .fits, start .fits .id2 .fits, record { sfits = s7 .before .struct-told .given .1 .1 .1 .0 .1 }))
     (omega (arith, tested .if2 .left))
     p8

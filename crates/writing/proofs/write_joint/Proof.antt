@@ -6,6 +6,7 @@ use Rattle.layout.specs.Forms.{width, formInRange}
 use Rattle.layout.specs.Layouts.{formsOf, formsIn}
 use Rattle.format.specs.declared.Command.the-variants.{Joint}
 use Rattle.format.specs.Commands.{related, allInRange, inRange}
+use Rattle.blocks.specs.FileCommands.{one}
 use Rattle.numbers.specs.BigEndian.{bigEndian}
 use Rattle.writing.specs.Bytes.{operandBytes, bytesOf}
 use Rattle.writing.proofs.Promised.{outside, short, done}
@@ -20,13 +21,13 @@ returns : tie.Need-returns
 unfolding inRange allInRange related formInRange formsOf formsIn
 returns c =
     let s = c .before .before .before .args in
-    outside (Joint (s .id) (s .j)) (s .bytes .now) (c .before .joint-in-range .ensures) (c .if1 .taken)
+    outside (one (Joint (s .id) (s .j))) (s .bytes .now) (c .before .joint-in-range .ensures) (c .if1 .taken)
 
 returns-2 : tie.Need-returns-2
 unfolding bytesOf operandBytes bigEndian formsOf formsIn width inRange allInRange related formInRange
 returns-2 c =
     let s = c .before .before .before .before .args in
-    short (Joint (s .id) (s .j)) (s .bytes .now) (c .before .before .joint-in-range .ensures) (c .before .if1 .left) (c .if2 .taken)
+    short (one (Joint (s .id) (s .j))) (s .bytes .now) (c .before .before .joint-in-range .ensures) (c .before .if1 .left) (c .if2 .taken)
 
 put-one-requires : tie.Need-put-one-requires
 put-one-requires c κs = search needs
@@ -61,7 +62,7 @@ returns-3 c =
     let p3 = behind p2 (s3 .put-four .ensures) refl (omega arith) in
     let p4 = behind p3 (s4 .put-four2 .ensures) refl (omega arith) in
     let p5 = behind p4 (s5 .put-four3 .ensures) refl (omega arith) in
-    done (Joint (s .id) (s .j)) (s .bytes .now) (tested .before .before .joint-in-range .ensures) (tested .before .if1 .left)
+    done (one (Joint (s .id) (s .j))) (s .bytes .now) (tested .before .before .joint-in-range .ensures) (tested .before .if1 .left)
     (start .fits .id .fits)
     (omega (arith, tested .if2 .left))
     p5

@@ -5,6 +5,7 @@ use Rattle.slices.proofs.Writing.{behind}
 use Rattle.layout.specs.Forms.{width}
 use Rattle.layout.specs.Layouts.{formsOf, formsIn}
 use Rattle.format.specs.declared.Command.the-variants.{Settings}
+use Rattle.blocks.specs.FileCommands.{one}
 use Rattle.numbers.specs.BigEndian.{bigEndian}
 use Rattle.writing.specs.Bytes.{operandBytes, bytesOf}
 use Rattle.writing.proofs.Promised.{outside, short, done}
@@ -18,13 +19,13 @@ settings-in-range-requires c κs = search needs
 returns : tie.Need-returns
 returns c =
     let s = c .before .before .before .args in
-    outside (Settings (s .s)) (s .bytes .now) (c .before .settings-in-range .ensures) (c .if1 .taken)
+    outside (one (Settings (s .s))) (s .bytes .now) (c .before .settings-in-range .ensures) (c .if1 .taken)
 
 returns-2 : tie.Need-returns-2
 unfolding bytesOf operandBytes bigEndian formsOf formsIn width
 returns-2 c =
     let s = c .before .before .before .before .args in
-    short (Settings (s .s)) (s .bytes .now) (c .before .before .settings-in-range .ensures) (c .before .if1 .left) (c .if2 .taken)
+    short (one (Settings (s .s))) (s .bytes .now) (c .before .before .settings-in-range .ensures) (c .before .if1 .left) (c .if2 .taken)
 
 put-one-requires : tie.Need-put-one-requires
 put-one-requires c κs = search needs
@@ -54,7 +55,7 @@ returns-3 c =
     let p2 = behind (s1 .put-one .ensures) (s2 .put-two .ensures) refl (omega arith) in
     let p3 = behind p2 (s3 .put-two2 .ensures) refl (omega arith) in
     let p4 = behind p3 (s4 .put-two3 .ensures) refl (omega arith) in
-    done (Settings (s .s)) (s .bytes .now) (tested .before .before .settings-in-range .ensures) (tested .before .if1 .left)
+    done (one (Settings (s .s))) (s .bytes .now) (tested .before .before .settings-in-range .ensures) (tested .before .if1 .left)
     tt
     (omega (arith, tested .if2 .left))
     p4

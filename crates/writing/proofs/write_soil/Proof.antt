@@ -5,6 +5,7 @@ use Rattle.slices.proofs.Writing.{behind}
 use Rattle.layout.specs.Forms.{width}
 use Rattle.layout.specs.Layouts.{formsOf, formsIn}
 use Rattle.format.specs.declared.Command.the-variants.{Soil}
+use Rattle.blocks.specs.FileCommands.{one}
 use Rattle.numbers.specs.BigEndian.{bigEndian}
 use Rattle.writing.specs.Bytes.{operandBytes, bytesOf}
 use Rattle.writing.proofs.Promised.{outside, short, done}
@@ -18,13 +19,13 @@ soil-in-range-requires c κs = search needs
 returns : tie.Need-returns
 returns c =
     let s = c .before .before .before .args in
-    outside (Soil (s .s)) (s .bytes .now) (c .before .soil-in-range .ensures) (c .if1 .taken)
+    outside (one (Soil (s .s))) (s .bytes .now) (c .before .soil-in-range .ensures) (c .if1 .taken)
 
 returns-2 : tie.Need-returns-2
 unfolding bytesOf operandBytes bigEndian formsOf formsIn width
 returns-2 c =
     let s = c .before .before .before .before .args in
-    short (Soil (s .s)) (s .bytes .now) (c .before .before .soil-in-range .ensures) (c .before .if1 .left) (c .if2 .taken)
+    short (one (Soil (s .s))) (s .bytes .now) (c .before .before .soil-in-range .ensures) (c .before .if1 .left) (c .if2 .taken)
 
 put-one-requires : tie.Need-put-one-requires
 put-one-requires c κs = search needs
@@ -54,7 +55,7 @@ returns-3 c =
     let p2 = behind (s1 .put-one .ensures) (s2 .put-one2 .ensures) refl (omega arith) in
     let p3 = behind p2 (s3 .put-four .ensures) refl (omega arith) in
     let p4 = behind p3 (s4 .put-one3 .ensures) refl (omega arith) in
-    done (Soil (s .s)) (s .bytes .now) (tested .before .before .soil-in-range .ensures) (tested .before .if1 .left)
+    done (one (Soil (s .s))) (s .bytes .now) (tested .before .before .soil-in-range .ensures) (tested .before .if1 .left)
     (omega (arith, start .good .0 .1 .1 .1 .0))
     (omega (arith, tested .if2 .left))
     p4

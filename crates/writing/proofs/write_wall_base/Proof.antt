@@ -5,6 +5,7 @@ use Rattle.slices.proofs.Writing.{behind}
 use Rattle.layout.specs.Forms.{width}
 use Rattle.layout.specs.Layouts.{formsOf, formsIn}
 use Rattle.format.specs.declared.Command.the-variants.{WallBase}
+use Rattle.blocks.specs.FileCommands.{one}
 use Rattle.numbers.specs.BigEndian.{bigEndian}
 use Rattle.writing.specs.Bytes.{operandBytes, bytesOf}
 use Rattle.writing.proofs.Promised.{outside, short, done}
@@ -18,13 +19,13 @@ wall-base-in-range-requires c κs = search needs
 returns : tie.Need-returns
 returns c =
     let s = c .before .before .before .args in
-    outside (WallBase (s .b)) (s .bytes .now) (c .before .wall-base-in-range .ensures) (c .if1 .taken)
+    outside (one (WallBase (s .b))) (s .bytes .now) (c .before .wall-base-in-range .ensures) (c .if1 .taken)
 
 returns-2 : tie.Need-returns-2
 unfolding bytesOf operandBytes bigEndian formsOf formsIn width
 returns-2 c =
     let s = c .before .before .before .before .args in
-    short (WallBase (s .b)) (s .bytes .now) (c .before .before .wall-base-in-range .ensures) (c .before .if1 .left) (c .if2 .taken)
+    short (one (WallBase (s .b))) (s .bytes .now) (c .before .before .wall-base-in-range .ensures) (c .before .if1 .left) (c .if2 .taken)
 
 put-one-requires : tie.Need-put-one-requires
 put-one-requires c κs = search needs
@@ -54,7 +55,7 @@ returns-3 c =
     let p2 = behind (s1 .put-one .ensures) (s2 .put-four .ensures) refl (omega arith) in
     let p3 = behind p2 (s3 .put-four2 .ensures) refl (omega arith) in
     let p4 = behind p3 (s4 .put-fours .ensures) refl (omega arith) in
-    done (WallBase (s .b)) (s .bytes .now) (tested .before .before .wall-base-in-range .ensures) (tested .before .if1 .left)
+    done (one (WallBase (s .b))) (s .bytes .now) (tested .before .before .wall-base-in-range .ensures) (tested .before .if1 .left)
     tt
     (omega (arith, tested .if2 .left))
     p4
