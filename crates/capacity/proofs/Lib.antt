@@ -16,4 +16,5 @@ pub mod Governs
 pub mod WrittenAgain
 mod FileListed
 pub mod Singly
+pub mod BlockHolds
 pub mod Edges

@@ -138,8 +138,7 @@ module _ (job : List ℕ) (es : List Entry) (e : listed job ≡ accepted es) whe
     rest-writable : (earlier later : List Entry) → es ≡ earlier ++ later → AllWritable (commandsOf later)
     rest-writable earlier [] q = tt
     rest-writable earlier (x ∷ later) q =
-        let s = stands earlier x later q in
-        (
+        let s = stands earlier x later q in (
           record { types = rw (s .read) (types-read job b (widthsOf earlier)); range = in-range job s; other = other job s },
           rest-writable (earlier ++ x ∷ []) later (moved earlier x later q),
         )

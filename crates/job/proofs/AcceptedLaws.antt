@@ -105,8 +105,7 @@ begins n job es =
     front : (j : Listing) → before (entryAt job 0 nothing) j ≡ accepted es → fileCommandAt job 0 ≡ one (settings (settingsOf (at (operandsAt job 0)))) → BeginsWithSettings (placedAll es)
     front (refused number offset) q c = absurd (not-both q)
     front (accepted later) q c =
-        let r : es ≡ entryAt job 0 nothing ∷ later = cc in
-        (
+        let r : es ≡ entryAt job 0 nothing ∷ later = cc in (
           settingsOf (at (operandsAt job 0)),
           placedAll later,
           ap placedAll r ∙ ap (λ (d : FileCommand). placedIn (record { offset = 0; given = d; context = nothing }) ++ placedAll later) c,

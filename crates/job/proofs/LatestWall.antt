@@ -161,11 +161,11 @@ at-every-storey job b earlier p later e s c =
       pauses = pauses-there true (replicate 768 0) room job b (w .before) (w .entry ∷ w .after) (w .listed);
       stands = stands-after true (replicate 768 0) room job b (w .before) (w .entry ∷ w .after) (w .listed);
       state = state ∙ sym (
-        ap (λ (ps : List Placed). stateThrough true startState (located ps)) (w .earlier-are)
-        ∙ ap (stateThrough true startState) (located-both (placedAll (w .before)) (w .sets))
-        ∙ state-both true startState (located (placedAll (w .before))) (located (w .sets))
-        ∙ before-kept true (stateThrough true startState (located (placedAll (w .before)))) (w .entry .context) (w .entry .offset) (w .entry .given) (w .sets) p (w .rest) (w .among)
-      );
+          ap (λ (ps : List Placed). stateThrough true startState (located ps)) (w .earlier-are)
+          ∙ ap (stateThrough true startState) (located-both (placedAll (w .before)) (w .sets))
+          ∙ state-both true startState (located (placedAll (w .before))) (located (w .sets))
+          ∙ before-kept true (stateThrough true startState (located (placedAll (w .before)))) (w .entry .context) (w .entry .offset) (w .entry .given) (w .sets) p (w .rest) (w .among)
+          );
       carries = k;
       row = row-carried earlier p base s (ap (λ (h : Context). h .settings) context ∙ settings-left earlier) holds c k;
     }
