@@ -16,7 +16,7 @@ use Rattle.format.specs.Commands.{byteOf}
 use Rattle.format.specs.Reading.{commandAt}
 use Rattle.format.proofs.CommandRead.{byte-read as command-byte}
 use Rattle.blocks.specs.Sets.{isBlock, countAt, setsOf}
-use Rattle.blocks.specs.FileCommands.{FileCommand, one, block, fileByteOf, fileCommandAt, widthOf, widthAt, storeysFrom}
+use Rattle.blocks.specs.FileCommands.{one, block, fileByteOf, fileCommandAt, widthOf, widthAt, storeysFrom}
 use Rattle.blocks.proofs.Sets.{storeys-length}
 
 module _ (job : List ℕ) (at : ℕ) where

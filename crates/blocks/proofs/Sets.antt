@@ -1,6 +1,6 @@
 -- Laws of the sets of a block: how many there are, that each stands in the file with its operands, and the set at fault. Assumes nothing.
 use mathlib.Core.Bool.{Bool, true, false, cond}
-use mathlib.Core.List.{List, [], _∷_}
+use mathlib.Core.List.{List, _∷_}
 use mathlib.Core.Path.{_≡_, refl, ap}
 use Prim.Native.Nat.{ℕ, zero, suc, _+_, _≤_, _<_}
 use lib.Dec.{lit<, leb, ltb}

@@ -1,8 +1,7 @@
 -- What demand 3 claims of a storey holds for every storey of every block of an accepted job. 02, No. 7. Assumes nothing.
 use mathlib.Core.Path.{_≡_, refl, sym, ap, _∙_, subst}
-use mathlib.Core.Bool.{Bool, true, false}
 use mathlib.Core.List.{List, [], _∷_, _++_, append-assoc}
-use mathlib.Core.Option.{Option, none, some}
+use mathlib.Core.Option.{some}
 use Prim.Native.Nat.{ℕ, _+_, _*_, _≤_}
 use native.Mathlib.Omega.{arith}
 use borrow.Author.Tests.{le-leb}
@@ -15,20 +14,19 @@ use Rattle.walls.specs.Storey.{storeyClaims}
 use Rattle.claims.specs.Claims.{Hold}
 use Rattle.format.specs.declared.Command.the-variants.{Storey as storey}
 use Rattle.layout.proofs.Numbers.{Bytes}
-use Rattle.blocks.specs.FileCommands.{FileCommand, block, storeysFrom, commandsFrom}
-use Rattle.context.specs.Context.{Context, next, given, missing, absent}
+use Rattle.blocks.specs.FileCommands.{FileCommand, storeysFrom, commandsFrom}
+use Rattle.context.specs.Context.{Context, next, absent}
 use Rattle.context.proofs.Shown.{present}
 use Rattle.rows.specs.Rows.{rowsOf, rowsWith}
 use Rattle.rows.specs.Writing.{joined}
-use Rattle.job.specs.Faults.{misplaced}
-use Rattle.job.specs.Placed.{Placed, placeEach, Entry, commandsIn, placedIn, placedAll, Job, accepted, listed, placed, rowsAt, allRows}
+use Rattle.job.specs.Placed.{Placed, placeEach, placedIn, placedAll, Job, accepted, placed, rowsAt, allRows}
 use Rattle.job.proofs.PlacedCases.{placed-of}
-use Rattle.job.proofs.Faultless.{Standing}
+use Rattle.job.proofs.Faultless.{Standing, settings-there}
 use Rattle.job.proofs.AcceptedLaws.{accepted-each}
 use Rattle.job.proofs.AlreadyMet.{rows-of-both, placed-both}
 use Rattle.capacity.specs.Calls.{rowsFrom, rowsAfter}
 use Rattle.capacity.specs.DemandThree.{claimsOf, claimsWith, rowRead, RowsHold, AllHold, JobHolds, DemandThree}
-use Rattle.capacity.specs.Singly.{StoreyHeld, BlocksHeld}
+use Rattle.capacity.specs.Singly.{BlocksHeld}
 use Rattle.capacity.proofs.Whole.{demand-three}
 
 -- ---- one of the placed commands
@@ -83,12 +81,6 @@ split h settings base e w at (t ∷ first) s rest =
       rows = length-append (rowsAt here) (allRows (k .sets)) ∙ omega (arith, one-row h at settings base e w t, k .rows);
     }
 
--- settings are given where a storey is in its place
-settings-given : (o : Option Settings) → misplaced 7 (given o) ≡ false → missing o ≡ false
-unfolding misplaced
-settings-given none e = e
-settings-given (some s) e = refl
-
 -- its claims
 storey-claim : (words : List ℤ) (n at : ℕ) (h : Context) (s : Storey) (settings : Settings) (base : WallBase) → h .settings ≡ some settings → h .wall ≡ some base →
     RowsHold words n (claimsOf (record { offset = at; command = storey s; context = h })) → Hold (storeyClaims (settings .behaviour) base s (rowRead words n))
@@ -107,7 +99,7 @@ blocks-held job b es e before x after q first s rest g m l =
     let standing : Standing (record { offset = at; command = storey (first-of .0); context = h }) =
     accepted-each job (placedAll es) is-placed (placedAll before) (record { offset = at; command = storey (first-of .0); context = h }) (placeEach (next h (storey (first-of .0))) (storeysFrom (at + 24) (first-of .1)) ++ placedAll after)
     (all ∙ ap (λ (ps : List Placed). placedAll before ++ (ps ++ placedAll after)) (own ∙ ap (λ (ss : List Storey). placeEach h (storeysFrom at ss)) (first-of .2))) .1 in
-    let (settings, by-settings) = present (h .settings) (settings-given (h .settings) (standing .settings)) in
+    let (settings, by-settings) = present (h .settings) (settings-there 7 refl (h .settings) (standing .settings)) in
     let (base, by-base) = present (h .wall) (standing .present) in
     let k = split h settings base by-settings by-base at first s rest in
     let p : Placed = record { offset = at + 24 * length first; command = storey s; context = h } in

@@ -4,7 +4,7 @@
 use mathlib.Core.Path.{_≡_, refl, sym, ap, _∙_}
 use mathlib.Core.Bool.{Bool, true, false, not, _||_, cond}
 use mathlib.Core.List.{List, [], _∷_, _++_, append-assoc}
-use mathlib.Core.Option.{Option, none, some}
+use mathlib.Core.Option.{some}
 use Prim.Native.Nat.{ℕ, _*_, _≤_}
 use borrow.Author.Tests.{le-leb}
 use lib.Dec.{T, eqb, leb, T-not}
@@ -17,15 +17,16 @@ use Rattle.members.specs.declared.Joint.{Joint}
 use Rattle.members.specs.declared.Hingeless.{Hingeless}
 use Rattle.members.specs.Hingeless.{hingelessRow, hingelessClaims}
 use Rattle.format.specs.declared.Command.the-variants.{Hingeless as hingeless}
-use Rattle.context.specs.Context.{given, missing, absent}
+use Rattle.context.specs.Context.{missing, absent}
 use Rattle.context.proofs.Shown.{present}
 use Rattle.rows.specs.Rows.{words, rowsWith, rowsOf}
 use Rattle.rows.specs.Writing.{joined}
-use Rattle.job.specs.Faults.{testsAt, misplaced}
+use Rattle.job.specs.Faults.{testsAt}
 use Rattle.job.specs.Placed.{Placed, Entry, placedAll, Job, refused, accepted, listed, placedWith, placed, rowsAt, allRows}
 use Rattle.job.specs.Answers.{rowsAnswer, sizeFrom, sizeOf, faultIn, faultOf}
 use Rattle.job.specs.Earlier.{latestJoint, endingBy}
 use Rattle.job.proofs.PlacedCases.{placed-of}
+use Rattle.job.proofs.Faultless.{settings-there}
 use Rattle.job.proofs.AcceptedLaws.{accepted-each}
 use Rattle.job.proofs.AcceptedBefore.{with7, accepted-before}
 use Rattle.job.proofs.Latest.{latest-joint}
@@ -72,12 +73,6 @@ neither : (a b : Bool) → (a || b) ≡ false → (a ≡ false) × (b ≡ false)
 neither true b e = absurd (differ e)
 neither false b e = (refl, e)
 
--- a member stands behind settings
-settings-there : (o : Option Settings) → misplaced 5 (given o) ≡ false → missing o ≡ false
-unfolding misplaced
-settings-there none e = e
-settings-there (some s) e = refl
-
 module _ (p : Placed) (s : Settings) (i j : Joint) (id1 id2 : ℕ) (m : Hingeless)
     (c : p .command ≡ hingeless id1 id2 m) (es : p .context .settings ≡ some s) (ei : p .context .joints id1 ≡ some i) (ej : p .context .joints id2 ≡ some j) where
   rows-made : rowsAt p ≡ words (p .offset) 5 (hingelessRow s i j m) ∷ []
@@ -93,7 +88,7 @@ module _ (job : List ℕ) (ps : List Placed) (e : placed job ≡ accepted ps) (e
   unfolding absent
   latest-joints-count id1 id2 m c =
       let t = accepted-each job ps e earlier p later q .1 in
-      let (s, es) = present (p .context .settings) (settings-there (p .context .settings) (rw c at (t .settings))) in
+      let (s, es) = present (p .context .settings) (settings-there 5 refl (p .context .settings) (rw c at (t .settings))) in
       let n = neither (missing (p .context .joints id1)) (missing (p .context .joints id2)) (rw c at (t .present)) in
       let (i, ei) = present (p .context .joints id1) (n .0) in
       let (j, ej) = present (p .context .joints id2) (n .1) in

@@ -3,7 +3,6 @@
 use mathlib.Core.Path.{_≡_, refl, sym, ap, _∙_}
 use mathlib.Core.Bool.{true}
 use mathlib.Core.List.{List, [], _∷_, _++_, map}
-use Prim.Native.Nat.{ℕ}
 use native.Mathlib.Omega.{arith}
 use lib.IntN.{ℤ}
 use lib.ListN.{length}
@@ -12,7 +11,7 @@ use Rattle.format.specs.declared.Command.{Command}
 use Rattle.format.specs.declared.Command.the-variants.{Storey as storey}
 use Rattle.format.proofs.RangeTest.{and-first, and-second}
 use Rattle.blocks.specs.Sets.{countInRange, allInRange}
-use Rattle.blocks.specs.FileCommands.{FileCommand, one, block, given, singly}
+use Rattle.blocks.specs.FileCommands.{FileCommand, block, given, singly}
 use Rattle.blocks.proofs.Sets.{each-in-range}
 use Rattle.writing.specs.Files.{AllWritable}
 use Rattle.context.specs.Context.{nothing}

@@ -12,7 +12,6 @@ use Rattle.walls.specs.Running.{SameValues}
 use Rattle.walls.proofs.Running.{same-storey-row}
 use Rattle.format.specs.declared.Command.the-variants.{Storey as storey}
 use Rattle.layout.proofs.Numbers.{Bytes}
-use Rattle.rows.specs.Rows.{words}
 use Rattle.job.specs.Placed.{Placed, placedAll, accepted, placed, allRows}
 use Rattle.job.specs.LatestWall.{wallAfter, carriedRow, AtStorey}
 use Rattle.job.proofs.PlacedCases.{listed-of}

@@ -11,22 +11,18 @@ use Rattle.layout.proofs.Numbers.{Bytes}
 use Rattle.context.specs.Running.{roomFor}
 use Rattle.rows.specs.Rows.{rowsOf}
 use Rattle.rows.specs.Writing.{joined}
-use Rattle.rows.proofs.Laws.{Eights, words-eight, storedAll-fits}
+use Rattle.rows.proofs.Laws.{Eights, words-eight, eights-both, storedAll-fits}
 use Rattle.job.specs.Placed.{Placed, Entry, placedAll, Listing, accepted, listed, placed, rowsAt, allRows}
 use Rattle.job.specs.Walking.{Final, firstPlace, noJoints, walkFrom}
 use Rattle.job.proofs.PlacedCases.{listed-of}
 use Rattle.job.proofs.Simulation.{Matches}
 use Rattle.job.proofs.Begin.{zero-sums, begin-matches}
 
-eights-append : (xs ys : List (List ℤ)) → Eights xs → Eights ys → Eights (xs ++ ys)
-eights-append [] ys e f = f
-eights-append (x ∷ xs) ys e f = (e .0, eights-append xs ys (e .1) f)
-
 -- every row has eight words
 pub rows-eight : (ps : List Placed) → Eights (allRows ps)
 unfolding allRows
 rows-eight [] = tt
-rows-eight (p ∷ ps) = eights-append (rowsAt p) (allRows ps) (words-eight (p .offset) (byteOf (p .command)) (rowsOf (p .context) (p .command))) (rows-eight ps)
+rows-eight (p ∷ ps) = eights-both (rowsAt p) (allRows ps) (words-eight (p .offset) (byteOf (p .command)) (rowsOf (p .context) (p .command))) (rows-eight ps)
 
 -- so the words of all rows are eight times as many
 pub joined-length : (rows : List (List ℤ)) → Eights rows → length (joined rows) ≡ 8 * length rows

@@ -1,7 +1,7 @@
 -- Laws of an accepted job: it begins with settings and ends with its only end, has at most 4,096 other commands, a block counted by its
 -- storeys, and the commands of the file stand one after the other and fill it; what holds at each placed command is what those before
 -- it leave. Assumes nothing.
-use mathlib.Core.Path.{_≡_, refl, sym, ap, _∙_, subst}
+use mathlib.Core.Path.{_≡_, refl, ap, _∙_, subst}
 use mathlib.Core.Bool.{Bool, true, false}
 use mathlib.Core.List.{List, [], _∷_, _++_}
 use Prim.Native.Nat.{ℕ, zero, suc, _+_, _-_, _≤_}
@@ -24,7 +24,7 @@ use Rattle.context.specs.Context.{Context, nothing, next, given}
 use Rattle.job.specs.Faults.{afterCommand, testsAt, misplaced}
 use Rattle.job.specs.Placed.{Placed, contextAfter, placeEach, Entry, entryAt, commandsIn, placedIn, placedAll, Listing, refused, accepted, before, listedBy, listed, placed}
 use Rattle.job.specs.Earlier.{widthsOf}
-use Rattle.job.proofs.Faultless.{Standing, Passed, passed, end-of, faultless, block-faultless}
+use Rattle.job.proofs.Faultless.{Standing, passed, end-of, faultless, block-faultless}
 use Rattle.job.proofs.Reached.{Stands, reached-accepted, reached-each, reached-placed}
 use Rattle.job.proofs.PlacedCases.{faultAt, not-both, weightAt, contextBehind, restAfter, by-cases, listed-of}
 

@@ -15,7 +15,7 @@ use Rattle.blocks.specs.FileCommands.{fileCommandAt, widthAt, fileOperandAtFaul
 use Rattle.context.specs.Context.{nothing, next, absent}
 use Rattle.job.specs.declared.FaultAnswer.{FaultAnswer}
 use Rattle.job.specs.Faults.{tooMany, misplaced, passesLimit, commandTests, blockTests, testsAt}
-use Rattle.job.specs.Placed.{Placed, placedAll, refused, listedBy, listed, placed}
+use Rattle.job.specs.Placed.{Placed, placedAll, listedBy, listed, placed}
 use Rattle.job.specs.Reached.{reachedFrom, reached}
 use Rattle.job.specs.Answers.{faultOf}
 use Rattle.job.proofs.PlacedCases.{faultAt}

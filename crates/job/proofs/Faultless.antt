@@ -1,18 +1,18 @@
 -- A command of the file without fault: each test has passed, it ends where its bytes end, and each command that it gives is in its
 -- place, in range, and has what it asks for. Assumes nothing.
 use mathlib.Core.Path.{_≡_, refl, sym, ap, _∙_}
-use mathlib.Core.Bool.{Bool, true, false, not, _||_, cond}
+use mathlib.Core.Bool.{Bool, true, false, not, _||_}
 use mathlib.Core.List.{List, [], _∷_}
+use mathlib.Core.Option.{Option, none as nothing-given, some}
 use Prim.Native.Nat.{ℕ, suc, _+_, _≤_, _<_}
 use native.Mathlib.Omega.{arith}
 use lib.Dec.{eqb, leb, ltb}
 use lib.ListN.{length}
 use borrow.Author.Tests.{ltb-false, leb-false, eqb-true, ne-eqb}
+use Rattle.coefficient.specs.declared.Settings.{Settings}
 use Rattle.layout.specs.Layouts.{known}
 use Rattle.layout.specs.Operands.{byteAt}
 use Rattle.walls.specs.declared.Storey.{Storey}
-use Rattle.format.specs.declared.Command.{Command}
-use Rattle.format.specs.declared.Command.the-variants.{Storey as storey}
 use Rattle.format.specs.Commands.{byteOf, inRange}
 use Rattle.format.specs.Reading.{commandAt}
 use Rattle.format.proofs.CommandRead.{byte-read}
@@ -21,16 +21,22 @@ use Rattle.blocks.specs.FileCommands.{FileCommand, widthOf, widthAt, commandsFr
 use Rattle.blocks.proofs.Sets.{count-range, storeys-length, each-in-range}
 use Rattle.blocks.proofs.FileCommands.{at-one, at-block, KnownAt, width-read, storeys-many}
 use Rattle.context.specs.Context.{Context, next, given, missing, absent}
+use Rattle.context.proofs.Shown.{differ}
 use Rattle.job.specs.Faults.{tooMany, passesLimit, misplaced, afterCommand, firstOf, commandTests, blockTests, testsAt}
-use Rattle.job.specs.Placed.{Placed, contextAfter, placeEach, Entry, entryAt, placedIn}
+use Rattle.job.specs.Placed.{Placed, placeEach, entryAt, placedIn}
 use Rattle.job.specs.Earlier.{endOf}
 use Rattle.job.proofs.PlacedCases.{faultAt, weightAt}
 
 none : (k : ℕ) → suc k ≡ 0 → ⊥
 none k e = omega arith
 
-differ : true ≡ false → ⊥
-differ e = let z : _≡_ {A = ℕ} 0 1 = cc in omega arith
+pub or-false : (a : Bool) → (a || false) ≡ a
+or-false true = refl
+or-false false = refl
+
+pub or-true : (a : Bool) → (a || true) ≡ true
+or-true true = refl
+or-true false = refl
 
 -- the byte is none of a block
 pub other-byte : (byte : ℕ) → (byte ≡ 11 → ⊥) → isBlock byte ≡ false
@@ -45,10 +51,6 @@ pub record Faultless (job : List ℕ) (offset count : ℕ) (h : Context) : Type 
   pub settings : misplaced (byteAt job offset) (given (h .settings)) ≡ false
   pub range : inRange (commandAt job offset) ≡ true
   pub present : absent h (commandAt job offset) ≡ false
-
-or-left : (a b : Bool) → (a || b) ≡ true → b ≡ false → a ≡ true
-or-left true b e f = refl
-or-left false b e f = absurd (differ (sym e ∙ f))
 
 module _ (job : List ℕ) (offset count : ℕ) (h : Context) (b : isBlock (byteAt job offset) ≡ false) where
   pub command-fault : faultAt job offset count h ≡ firstOf (commandTests job offset count h)
@@ -72,7 +74,7 @@ module _ (job : List ℕ) (offset count : ℕ) (h : Context) (b : isBlock (byteA
       by true false false false true true e1 e2 e3 e4 e5 e6 z = absurd (none 5 z)
       by true false false false true false e1 e2 e3 e4 e5 e6 z =
           record {
-            known-byte = or-left (known (byteAt job offset)) (isBlock (byteAt job offset)) e1 b;
+            known-byte = sym (or-false (known (byteAt job offset))) ∙ ap (λ (k : Bool). known (byteAt job offset) || k) (sym b) ∙ e1;
             whole = ltb-false (length job) (afterCommand job offset) e2;
             few = e3;
             settings = e4;
@@ -145,6 +147,12 @@ pub record Passed (job : List ℕ) (offset count : ℕ) (h : Context) : Type 0 w
   pub some : 1 ≤ weightAt job offset
   pub few : (byteAt job offset ≡ 0 → ⊥) → count + weightAt job offset ≤ 4096
   pub chained : (byteAt job offset ≡ 0 → ⊥) → Chained h (placedIn (entryAt job offset h))
+
+-- another command than settings stands behind them
+pub settings-there : (byte : ℕ) → eqb byte 1 ≡ false → (o : Option Settings) → misplaced byte (given o) ≡ false → missing o ≡ false
+unfolding misplaced
+settings-there byte b nothing-given e = rw b at e
+settings-there byte b (some s) e = refl
 
 -- a command that is no end is not the 4,097th
 pub count-below : (byte count : ℕ) → (byte ≡ 0 → ⊥) → tooMany byte count ≡ false → count < 4096

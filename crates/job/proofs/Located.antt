@@ -18,7 +18,7 @@ use Rattle.job.specs.Placed.{Placed, placeEach, Entry, entryAt, commands
 use Rattle.job.specs.Walking.{stateThrough, jointsThrough}
 use Rattle.job.specs.Reached.{located, reachedFrom}
 use Rattle.job.proofs.PlacedCases.{weightAt, contextBehind}
-use Rattle.job.proofs.Faultless.{Standing, Chained}
+use Rattle.job.proofs.Faultless.{Chained}
 use Rattle.job.proofs.Reached.{none-first, reachedAfter, first-reached}
 use Rattle.job.proofs.Through.{AllFit, ids-given}
 

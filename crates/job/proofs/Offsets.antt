@@ -1,7 +1,7 @@
 -- Each placed command of an accepted job stands at an offset of at most 237,512, where 4,095 footings of 58 bytes and the first two bytes
 -- of a block end, and its byte is at most 10. Assumes nothing.
 use mathlib.Core.List.{List, [], _∷_, _++_}
-use mathlib.Core.Path.{_≡_, ap, _∙_, subst}
+use mathlib.Core.Path.{_≡_, subst}
 use Prim.Native.Nat.{ℕ, zero, suc, _+_, _*_, _≤_}
 use native.Mathlib.Omega.{arith}
 use lib.ListN.{length}
@@ -15,7 +15,7 @@ use Rattle.blocks.proofs.FileCommands.{storeys-many}
 use Rattle.context.specs.Context.{Context, nothing, next}
 use Rattle.job.specs.Faults.{afterCommand, testsAt}
 use Rattle.job.specs.Placed.{Placed, placeEach, Entry, entryAt, placedIn, placedAll, Listing, refused, accepted, before, listedBy, listed, placed}
-use Rattle.job.proofs.Faultless.{passed, end-of}
+use Rattle.job.proofs.Faultless.{passed}
 use Rattle.job.proofs.PlacedCases.{weightAt, contextBehind, restAfter, by-cases, listed-of}
 
 -- a command's byte

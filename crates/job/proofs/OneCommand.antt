@@ -1,11 +1,10 @@
 -- The walk over one command of the file: off the state and the tables it finds the fault and makes the rows that the context gives, and
 -- goes on behind the command, with a state and tables that show what holds then. Assumes nothing.
 use mathlib.Core.Path.{_≡_, refl, sym, ap, _∙_, subst}
-use mathlib.Core.Bool.{Bool, true, false, not, _||_, cond}
+use mathlib.Core.Bool.{Bool, true, false, not, cond}
 use mathlib.Core.List.{List}
 use Prim.Native.Nat.{ℕ, suc, _+_, _*_, _≤_, _<_}
 use native.Mathlib.Omega.{arith}
-use lib.Dec.{eqb}
 use lib.IntN.{ℤ}
 use lib.ListN.{length}
 use borrow.Author.Tests.{leb-false, eqb-true}
@@ -23,24 +22,16 @@ use Rattle.rows.specs.Writing.{storedAll}
 use Rattle.rows.proofs.Memory.{storedAll-keeps}
 use Rattle.rows.proofs.Laws.{storedAll-none}
 use Rattle.job.specs.declared.Place.{Place}
-use Rattle.job.specs.Faults.{afterCommand, misplaced, commandTests, blockTests}
+use Rattle.job.specs.Faults.{misplaced, commandTests, blockTests}
 use Rattle.job.specs.Placed.{Entry, entryAt, placedIn, allRows}
-use Rattle.job.specs.Walking.{commandFault, blockFault, faultFrom, commandsHere, stateThrough, jointsThrough, rowsThrough, rowsHere, nextPlace, walkFrom}
+use Rattle.job.specs.Walking.{commandFault, blockFault, faultFrom, commandsHere, jointsThrough, rowsThrough, rowsHere, nextPlace, walkFrom}
 use Rattle.job.specs.Reached.{placeBehind}
 use Rattle.job.proofs.PlacedCases.{faultAt, contextBehind}
-use Rattle.job.proofs.Faultless.{command-fault, block-fault, Chained, Passed, passed, end-of}
+use Rattle.job.proofs.Faultless.{or-false, or-true, command-fault, block-fault, Chained, Passed, passed, end-of}
 use Rattle.job.proofs.Steps.{walk-step-suc, onward, goes-on, one-fault, many-fault}
 use Rattle.job.proofs.Through.{ids-read, ids-given, shows-through, rows-through, rows-through-many, eights-through}
 
 -- ---- the fault off the state is the fault off the context
-
-or-false : (a : Bool) → (a || false) ≡ a
-or-false true = refl
-or-false false = refl
-
-or-true : (a : Bool) → (a || true) ≡ true
-or-true true = refl
-or-true false = refl
 
 -- a block is in its place where settings are given
 block-misplaced : (byte : ℕ) (g : Bool) → isBlock byte ≡ true → misplaced byte g ≡ not g

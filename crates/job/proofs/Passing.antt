@@ -1,13 +1,13 @@
 -- Commands of a file that pass the tests, by their values alone: the tests of a command that stands whole in a job, and that a block
 -- passes exactly where its storeys given singly do. 02, No. 7. Assumes nothing.
 use mathlib.Core.Path.{_≡_, refl, sym, ap, _∙_, subst}
-use mathlib.Core.Bool.{Bool, true, false, _||_}
+use mathlib.Core.Bool.{Bool, true, false}
 use mathlib.Core.List.{List, [], _∷_, _++_, map}
 use Prim.Native.Nat.{ℕ, _+_, _≤_, _<_}
 use native.Mathlib.Omega.{arith}
 use native.Mathlib.Nat.{add-zero}
 use lib.ListN.{length, length-map}
-use borrow.Author.Tests.{le-ltb, lt-leb, le-leb, leb-false, ne-eqb}
+use borrow.Author.Tests.{le-ltb, lt-leb, le-leb, leb-false}
 use Rattle.layout.specs.Layouts.{known}
 use Rattle.layout.specs.Operands.{byteAt}
 use Rattle.walls.specs.declared.Storey.{Storey}
@@ -25,7 +25,7 @@ use Rattle.context.specs.Context.{Context, next, given, missing, absent}
 use Rattle.job.specs.Faults.{tooMany, passesLimit, misplaced, afterCommand, commandTests, blockTests}
 use Rattle.job.specs.Placed.{contextAfter, placeEach}
 use Rattle.job.proofs.PlacedCases.{faultAt, weightAt, contextBehind}
-use Rattle.job.proofs.Faultless.{command-fault, block-fault, faultless, block-faultless, count-below, limit-kept}
+use Rattle.job.proofs.Faultless.{or-true, command-fault, block-fault, faultless, block-faultless, count-below, limit-kept}
 use Rattle.job.proofs.Offsets.{byte-most}
 
 -- ---- the tests that depend on a command's values
@@ -62,10 +62,6 @@ EndPasses h = misplaced 0 (given (h .settings)) ≡ false
 abbrev pub Passes : ℕ → Context → List FileCommand → Type 0
 Passes count h [] = EndPasses h
 Passes count h (c ∷ cs) = PassesAt count h c × Passes (count + length (givenBy c)) (through h (givenBy c)) cs
-
-or-true : (a : Bool) → (a || true) ≡ true
-or-true true = refl
-or-true false = refl
 
 -- ---- a block, and its storeys singly
 

@@ -11,7 +11,7 @@ use Rattle.layout.specs.Operands.{byteAt}
 use Rattle.blocks.specs.FileCommands.{fileCommandAt, commandsFrom}
 use Rattle.context.specs.Context.{Context}
 use Rattle.job.specs.Faults.{Tests, testsAt, firstOf, afterCommand}
-use Rattle.job.specs.Placed.{JobOf, Job, Listing, refused, accepted, Placed, contextAfter, Entry, entryAt, placedIn, placedAll, before, listedBy, listed, placedOf, placed}
+use Rattle.job.specs.Placed.{JobOf, Listing, refused, accepted, Placed, contextAfter, Entry, entryAt, placedIn, placedAll, before, listedBy, listed, placedOf, placed}
 
 -- the fault of a command by the tests of 01 and 02
 abbrev pub faultAt : List ℕ → ℕ → ℕ → Context → ℕ

@@ -11,13 +11,13 @@ use lib.Dec.{eqb, leb, ltb}
 use lib.ListN.{length}
 use borrow.Author.Tests.{le-leb, lt-leb, lt-ltb, ne-eqb, leb-false, ltb-false, eqb-false}
 use Rattle.layout.specs.Operands.{byteAt}
-use Rattle.blocks.specs.FileCommands.{widthOf, fileCommandAt, widthAt}
+use Rattle.blocks.specs.FileCommands.{widthOf, fileCommandAt}
 use Rattle.context.specs.Context.{Context, nothing, next}
 use Rattle.job.specs.Faults.{afterCommand, testsAt}
 use Rattle.job.specs.Placed.{Placed, contextAfter, Entry, entryAt, placedIn, placedAll, Listing, refused, accepted, before, listedBy, listed}
 use Rattle.job.specs.Earlier.{widthsOf}
 use Rattle.job.specs.Reached.{stopsAt, reachedFrom, reached}
-use Rattle.job.proofs.Faultless.{Standing, Chained, Passed, passed, end-of}
+use Rattle.job.proofs.Faultless.{Standing, Chained, passed, end-of}
 use Rattle.job.proofs.PlacedCases.{faultAt, weightAt, contextBehind, restAfter, by-cases}
 use Rattle.job.proofs.RefusedLaws.{fault-number}
 

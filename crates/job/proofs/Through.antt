@@ -33,10 +33,10 @@ use Rattle.context.proofs.Laws.{next-sound, sums-sound, given-length, sums-leng
 use Rattle.context.proofs.Shown.{Shows, IdsFit, InPlace, settings-given, shows-next}
 use Rattle.rows.specs.Rows.{rowsOf, words}
 use Rattle.rows.specs.Writing.{rowsFrom, setRows}
-use Rattle.rows.proofs.Laws.{Eights, words-eight, rows-count, rows-le}
+use Rattle.rows.proofs.Laws.{Eights, words-eight, eights-both, rows-count, rows-le}
 use Rattle.rows.proofs.RowsSame.{rows-same, rows-as-many}
 use Rattle.job.specs.Faults.{misplaced}
-use Rattle.job.specs.Placed.{Placed, contextAfter, placeEach, rowsAt, allRows}
+use Rattle.job.specs.Placed.{Placed, contextAfter, placeEach, allRows}
 use Rattle.job.specs.Walking.{stateThrough, jointsThrough, rowsThrough}
 use Rattle.job.proofs.Faultless.{Standing, Chained}
 
@@ -139,10 +139,6 @@ rows-through-many t joints h s ((at, c) ∷ cs) (i, f) (e, w, k) =
     )
 
 -- each row has eight words
-eights-both : (xs ys : List (List ℤ)) → Eights xs → Eights ys → Eights (xs ++ ys)
-eights-both [] ys e f = f
-eights-both (x ∷ xs) ys e f = (e .0, eights-both xs ys (e .1) f)
-
 pub eights-through : (room : Bool) (t : State) (joints : JointTable) (cs : List (ℕ × Command)) → Eights (rowsThrough room t joints cs)
 unfolding rowsThrough
 eights-through room t joints [] = tt

@@ -9,7 +9,6 @@ use native.Mathlib.Nat.{zero-add}
 use lib.IntN.{ℤ}
 use lib.ListN.{length}
 use Rattle.layout.proofs.Numbers.{Bytes}
-use Rattle.format.specs.declared.Command.{Command}
 use Rattle.context.specs.Context.{Context, nothing}
 use Rattle.context.specs.Running.{roomFor, JointTable, SoundSums, startState}
 use Rattle.context.proofs.Shown.{Shows}

@@ -1,8 +1,8 @@
 -- The ways out of the walk, and the ways on, over the values that the code holds at a command of the file: one by itself, and a block.
 -- Assumes nothing.
 use mathlib.Core.Path.{_≡_, refl, sym, ap, _∙_}
-use mathlib.Core.Bool.{Bool, true, false, cond}
-use mathlib.Core.List.{List, [], _∷_, _++_, map, append-nil}
+use mathlib.Core.Bool.{Bool, true, false}
+use mathlib.Core.List.{List, [], _∷_, map, append-nil}
 use Prim.Native.Nat.{ℕ, zero, suc, _+_, _-_, _*_, _≤_, _<_}
 use native.Mathlib.Omega.{arith}
 use lib.IntN.{ℤ}
@@ -13,12 +13,12 @@ use Rattle.layout.specs.Operands.{byteAt}
 use Rattle.format.specs.declared.Command.{Command}
 use Rattle.format.specs.Commands.{byteOf, inRange, operandAtFault}
 use Rattle.format.specs.Reading.{commandAt}
-use Rattle.blocks.specs.Sets.{isBlock, countAt, storeysAt, setsOf, allInRange, setNamed}
-use Rattle.blocks.specs.FileCommands.{FileCommand, fileCommandAt, fileOperandAtFault, storeysFrom, commandsFrom}
+use Rattle.blocks.specs.Sets.{isBlock, countAt, setsOf, allInRange, setNamed}
+use Rattle.blocks.specs.FileCommands.{fileCommandAt, fileOperandAtFault, storeysFrom, commandsFrom}
 use Rattle.blocks.proofs.Sets.{storeys-length, none-named, one-named}
 use Rattle.blocks.proofs.FileCommands.{at-one, at-block, width-one, width-block, storeys-many}
 use Rattle.context.specs.declared.State.{State}
-use Rattle.context.specs.Running.{JointTable, nextState, nextGiven, nextSums, nextJoints, absentIn}
+use Rattle.context.specs.Running.{JointTable, nextState, nextGiven, nextSums, absentIn}
 use Rattle.rows.specs.Rows.{words}
 use Rattle.rows.specs.Writing.{rowsFrom, setRows, storedAll}
 use Rattle.rows.proofs.SetRows.{set-rows-count}
@@ -28,7 +28,7 @@ use Rattle.job.specs.Faults.{afterCommand, operandNamed}
 use Rattle.job.specs.Walking.{Final, earlyFault, blockEarlyFault, faultFrom, outcome, commandsHere, jointsThrough, rowsThrough, rowsHere, nextPlace}
 use Rattle.job.proofs.Faultless.{count-below}
 use Rattle.job.proofs.Steps.{stop, onward, walk-none, walk-step, no-end, faulty, more-bytes, finished, early-fault, early-named, Early, fault5, fault6, fault0, BlockEarly, block-early-fault, block-early-named, block-fault-is, set-is-named}
-use Rattle.job.proofs.Through.{AllIn, storeys-in, state-kept, joints-kept, set-rows-through}
+use Rattle.job.proofs.Through.{storeys-in, state-kept, joints-kept, set-rows-through}
 use Rattle.job.proofs.Stands.{Stands, moved}
 
 -- ---- the commands at a place

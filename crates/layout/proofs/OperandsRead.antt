@@ -103,11 +103,6 @@ read-below fs bytes b i l =
 pub operands-length : (job : List ℕ) (start : ℕ) → length (operandsAt job start) ≡ length (formsOf (byteAt job start))
 operands-length job start = read-length (formsOf (byteAt job start)) (drop (start + 1) job)
 
-pub operand-is : (job : List ℕ) (start i : ℕ) → i < length (formsOf (byteAt job start)) → at (operandsAt job start) i ≡ number (take (width (getD (formsOf (byteAt job start)) i Id)) (drop (start + 1 + offsetOf (formsOf (byteAt job start)) i) job))
-operand-is job start i l =
-    read-at (formsOf (byteAt job start)) (drop (start + 1) job) i l
-    ∙ rw (drop-drop (offsetOf (formsOf (byteAt job start)) i) (start + 1) job)
-
 pub operands-fit : (job : List ℕ) (start : ℕ) → Bytes job → Fit (byteAt job start) (at (operandsAt job start))
 operands-fit job start b = read-below (formsOf (byteAt job start)) (drop (start + 1) job) (bytes-drop (start + 1) job b)
 

@@ -53,8 +53,9 @@ pub words-eight : (offset byte : ℕ) (rows : List Row) → Eights (map (words o
 words-eight offset byte [] = tt
 words-eight offset byte (r ∷ rs) = (refl, words-eight offset byte rs)
 
-pub stored-length : (memory : List ℤ) (n offset byte : ℕ) (rows : List Row) → length (storedAll memory n (map (words offset byte) rows)) ≡ length memory
-stored-length m n offset byte rows = memory.storedAll-keeps m n (map (words offset byte) rows) (words-eight offset byte rows)
+pub eights-both : (xs ys : List (List ℤ)) → Eights xs → Eights ys → Eights (xs ++ ys)
+eights-both [] ys e f = f
+eights-both (x ∷ xs) ys e f = (e .0, eights-both xs ys (e .1) f)
 
 pub storedAll-append : (m : List ℤ) (n : ℕ) (xs ys : List (List ℤ)) → storedAll m n (xs ++ ys) ≡ storedAll (storedAll m n xs) (n + length xs) ys
 storedAll-append = memory.storedAll-append

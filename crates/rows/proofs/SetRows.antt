@@ -1,4 +1,4 @@
--- The rows of a block's sets: how many they are, eight words each, and the loop that writes them over plain values. Assumes nothing.
+-- The rows of a block's sets: how many they are, and the loop that writes them over plain values. Assumes nothing.
 use mathlib.Core.Bool.{true}
 use mathlib.Core.List.{List, [], _∷_}
 use mathlib.Core.Path.{_≡_, refl, sym, ap, _∙_}
@@ -16,17 +16,12 @@ use Rattle.blocks.specs.Sets.{storeyAt, storeysAt, allInRange}
 use Rattle.blocks.proofs.Sets.{each-in-range}
 use Rattle.rows.specs.Rows.{words}
 use Rattle.rows.specs.Writing.{setRows, stored, storedAll, SetsAsk}
-use Rattle.rows.proofs.Memory.{Eights, stored-keeps}
+use Rattle.rows.proofs.Memory.{stored-keeps}
 
 pub set-rows-count : (w : Wall) (at : ℕ) (ss : List Storey) → length (setRows w at ss) ≡ length ss
 unfolding setRows
 set-rows-count w at [] = refl
 set-rows-count w at (s ∷ ss) = ap suc (set-rows-count w (at + 24) ss)
-
-pub set-rows-eight : (w : Wall) (at : ℕ) (ss : List Storey) → Eights (setRows w at ss)
-unfolding setRows
-set-rows-eight w at [] = tt
-set-rows-eight w at (s ∷ ss) = (refl, set-rows-eight w (at + 24) ss)
 
 -- ---- the loop: what is left to write gives what the whole gives
 

@@ -2,7 +2,7 @@
 -- before and behind it; one that is read is written in the bytes that stand there. 02, No. 2 and No. 7. Assumes nothing.
 use mathlib.Core.Bool.{Bool, true, false, cond}
 use mathlib.Core.List.{List, [], _∷_, _++_, append-assoc}
-use mathlib.Core.Path.{_≡_, refl, sym, ap, _∙_}
+use mathlib.Core.Path.{_≡_, refl, ap, _∙_}
 use Prim.Native.Nat.{ℕ, zero, suc, _+_, _-_, _*_, _≤_}
 use native.Mathlib.Nat.{add-zero}
 use native.Mathlib.Numerals.{add-one}
@@ -17,7 +17,7 @@ use Rattle.layout.proofs.OperandsRead.{at as valueAt}
 use Rattle.layout.proofs.Widths.{widths}
 use Rattle.walls.specs.declared.Storey.{Storey}
 use Rattle.format.specs.declared.Command.the-variants.{Storey as storey}
-use Rattle.format.specs.Commands.{byteOf, operandsOf, storeyOf, inRange}
+use Rattle.format.specs.Commands.{operandsOf, storeyOf, inRange}
 use Rattle.format.specs.Reading.{commandAt}
 use Rattle.format.proofs.RangeTest.{and-second}
 use Rattle.format.proofs.ReadTypes as types

@@ -13,7 +13,7 @@ use Rattle.layout.specs.Layouts.{formsOf, formsIn}
 use Rattle.layout.proofs.OperandsRead.{width-is as form-width-is}
 use Rattle.layout.proofs.Widths.{widths}
 use Rattle.format.specs.declared.Command.the-variants.{Storey as storey}
-use Rattle.format.proofs.Scan.{Scanning, begins, next-fits, place-fits, found, scans-on, scanned}
+use Rattle.format.proofs.Scan.{Scanning, begins, next-fits, found, scans-on, scanned}
 use Rattle.blocks.specs.Sets.{storeyAt}
 use Rattle.blocks.proofs.Sets.{storey-scanned}
 use Rattle.blocks.proofs.operand_named.Statement.{statement}

@@ -1,6 +1,5 @@
 -- `rows::emit_sets` meets its contract: with room for the first row by `write_sets`, else nothing is written. Assumes nothing.
 use mathlib.Core.Path.{refl, sym}
-use native.Mathlib.Omega.{arith}
 use borrow.Author.Needs.{needs}
 use Rattle.blocks.specs.Sets.{storeysAt}
 use Rattle.rows.specs.Writing.{setRows}
