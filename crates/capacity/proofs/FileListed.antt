@@ -7,7 +7,7 @@ use Prim.Native.Nat.{ℕ, zero, suc, _+_, _<_}
 use native.Mathlib.Omega.{arith}
 use native.Mathlib.Nat.{not-suc-le-zero}
 use lib.IntN.{ℤ}
-use lib.ListN.{length, drop, length-append}
+use lib.ListN.{length, length-append}
 use Rattle.layout.specs.Operands.{byteAt}
 use Rattle.blocks.proofs.FileCommands.{width-some}
 use Rattle.claims.specs.declared.Row.{Row}
@@ -169,25 +169,26 @@ abbrev pub givenAll : List FileCommand → List Command
 givenAll [] = []
 givenAll (c ∷ cs) = given c ++ givenAll cs
 
--- words 1 to 7 of the rows of commands, one after the other
+-- the rows of commands, one after the other, word 0 aside
 unfoldable pub rowsGiven : Context → List Command → List (List ℤ)
 rowsGiven h [] = []
-rowsGiven h (c ∷ cs) = map (λ r. drop 1 (words 0 (byteOf c) r)) (rowsOf h c) ++ rowsGiven (next h c) cs
+rowsGiven h (c ∷ cs) = withoutOffsets (map (words 0 (byteOf c)) (rowsOf h c)) ++ rowsGiven (next h c) cs
 
 rows-given-both : (h : Context) (cs ds : List Command) → rowsGiven h (cs ++ ds) ≡ rowsGiven h cs ++ rowsGiven (through h cs) ds
 unfolding rowsGiven
 rows-given-both h [] ds = refl
 rows-given-both h (c ∷ cs) ds =
-    let own = map (λ r. drop 1 (words 0 (byteOf c) r)) (rowsOf h c) in
+    let own = withoutOffsets (map (words 0 (byteOf c)) (rowsOf h c)) in
     ap (λ (xs : List (List ℤ)). own ++ xs) (rows-given-both (next h c) cs ds) ∙ sym (append-assoc own (rowsGiven (next h c) cs) (rowsGiven (through (next h c) cs) ds))
 
 offsets-both : (xs ys : List (List ℤ)) → withoutOffsets (xs ++ ys) ≡ withoutOffsets xs ++ withoutOffsets ys
 offsets-both [] ys = refl
-offsets-both (x ∷ xs) ys = ap (λ (l : List (List ℤ)). drop 1 x ∷ l) (offsets-both xs ys)
+offsets-both (x ∷ xs) ys = ap (λ (l : List (List ℤ)). withoutOffsets (x ∷ []) ++ l) (offsets-both xs ys)
 
-own-words : (offset byte : ℕ) (rows : List Row) → withoutOffsets (map (words offset byte) rows) ≡ map (λ r. drop 1 (words 0 byte r)) rows
+-- whatever the offset is
+own-words : (offset byte : ℕ) (rows : List Row) → withoutOffsets (map (words offset byte) rows) ≡ withoutOffsets (map (words 0 byte) rows)
 own-words offset byte [] = refl
-own-words offset byte (r ∷ rs) = ap (λ (l : List (List ℤ)). drop 1 (words 0 byte r) ∷ l) (own-words offset byte rs)
+own-words offset byte (r ∷ rs) = ap (λ (l : List (List ℤ)). withoutOffsets (words 0 byte r ∷ []) ++ l) (own-words offset byte rs)
 
 -- of commands with their offsets
 abbrev commands : List (ℕ × Command) → List Command

@@ -154,7 +154,8 @@ pub fn walk(
             storeys = true;
             written = rows::emit_sets(rows, written, job, offset + 2, sets, state.wall, table);
             offset = offset + 2 + blocks::SET * sets;
-            count += sets as u32;
+            let weight = sets as u32;
+            count += weight;
             left -= 1;
             continue 'walk;
         }

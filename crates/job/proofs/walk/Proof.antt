@@ -296,8 +296,8 @@ mul-offset c = omega (arith, few-sets (block-else (block-sets (c .before))))
 add-offset-2 : tie.Need-add-offset-2 Inv-loop μ-loop Inv-walk μ-walk
 add-offset-2 c = let e = block-else (block-sets (c .before)) in omega (arith, block-reached e .early .whole, start-at (block-head e) .good .0)
 
-cast-count : tie.Need-cast-count Inv-loop μ-loop Inv-walk μ-walk
-cast-count c = omega (arith, few-sets (block-else (block-sets (c .before))))
+cast-weight : tie.Need-cast-weight Inv-loop μ-loop Inv-walk μ-walk
+cast-weight c = omega (arith, few-sets (block-else (block-sets (c .before))))
 
 add-count : tie.Need-add-count Inv-loop μ-loop Inv-walk μ-walk
 add-count c = omega (arith, block-reached (block-else (block-sets (c .before))) .early .few)
@@ -616,7 +616,7 @@ walk-spec =
     add-offset
     mul-offset
     add-offset-2
-    cast-count
+    cast-weight
     add-count
     sub-left
     walk-less
