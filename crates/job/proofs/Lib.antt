@@ -3,6 +3,7 @@
 mod Steps
 mod Stands
 mod Ways
+mod Stretches
 mod Front
 pub mod PlacedCases
 pub mod Faultless

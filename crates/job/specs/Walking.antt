@@ -1,8 +1,8 @@
 -- The walk in the shape of the code. proofs/ joins it to the placed commands. `room` tells whether rows are to be written.
 use mathlib.Core.Path.{_≡_}
-use mathlib.Core.Bool.{Bool, not, cond}
+use mathlib.Core.Bool.{Bool, true, not, cond}
 use mathlib.Core.List.{List, [], _∷_, _++_, map}
-use Prim.Native.Nat.{ℕ, zero, suc, _+_, _*_, _≤_}
+use Prim.Native.Nat.{ℕ, zero, suc, _+_, _*_, _≤_, _<_}
 use lib.Dec.{eqb, leb, ltb}
 use lib.IntN.{ℤ}
 use lib.ListN.{length, replicate}
@@ -18,6 +18,8 @@ use Rattle.context.specs.Running.{JointTable, startState, nextState, nextSums, 
 use Rattle.rows.specs.Rows.{words}
 use Rattle.rows.specs.Writing.{rowsFrom, storedAll}
 use Rattle.job.specs.declared.Place.{Place}
+use Rattle.job.specs.declared.Stretch.{Stretch}
+use Rattle.job.specs.declared.Stretch.the-variants as stretch
 use Rattle.job.specs.declared.Walked.{Walked}
 use Rattle.job.specs.declared.Walked.the-variants.{Refused, Finished, Paused}
 use Rattle.job.specs.declared.FaultAnswer.{FaultAnswer}
@@ -147,6 +149,24 @@ pub record WalkAsks (job : List ℕ) (p : Place) (joints : JointTable) (room : B
   pub offset : p .offset ≤ length job
   pub count : p .count ≤ 4096
   pub rows : p .rows ≤ p .count + p .count
+
+-- ---- a stretch of the walk: commands by themselves, up to a block
+
+-- a block is next, and the whole walk, with this budget from its start, is what is left of it
+pub record BeforeBlock (room : Bool) (budget : ℕ) (whole : Final) (job : List ℕ) (joints : JointTable) (memory : List ℤ) (p : Place) (left : ℕ) : Type 0 where
+  pub same : whole ≡ walkFrom room left job p joints memory
+  pub block : isBlock (byteAt job (p .offset)) ≡ true
+  pub inside : p .offset < length job
+  pub some-left : 0 < left
+  pub fewer : left ≤ budget
+  pub asks : WalkAsks job p joints room
+
+-- how it ended: where no block is next, as the whole walk does
+abbrev pub Stretched : Bool → ℕ → Final → List ℕ → JointTable → List ℤ → Stretch → Type 0
+Stretched room budget whole job joints memory (stretch.Refused number offset operand) = whole ≡ record { answer = Refused number offset operand; joints = joints; memory = memory }
+Stretched room budget whole job joints memory (stretch.Finished n) = whole ≡ record { answer = Finished n; joints = joints; memory = memory }
+Stretched room budget whole job joints memory (stretch.Paused p) = whole ≡ record { answer = Paused p; joints = joints; memory = memory }
+Stretched room budget whole job joints memory (stretch.Block p left) = BeforeBlock room budget whole job joints memory p left
 
 -- ---- the answers of a walk; one from the start ends within 4,097 commands and never pauses
 

@@ -7,7 +7,7 @@ ghost use Rattle.context.specs.Running.{roomFor};
 ghost use Rattle.layout.specs.Operands.{byteAt};
 ghost use Rattle.cubes.specs.Cube.{LentCubes};
 ghost use Rattle.job.specs.Faults.{tooMany, misplaced};
-ghost use Rattle.job.specs.Walking.{earlyFault, blockEarlyFault, firstPlace, walkFrom, WalkAsks, walkedAnswer, walkedFault};
+ghost use Rattle.job.specs.Walking.{earlyFault, blockEarlyFault, firstPlace, walkFrom, WalkAsks, Stretched, walkedAnswer, walkedFault};
 ghost use Rattle.job.specs.Answers.{rowCountAnswer, sizeOf, faultOf};
 
 // Where the walk stands: the offset of the next command, the commands and the rows so far, and what holds.
@@ -24,6 +24,22 @@ pub enum Walked {
     // The rows.
     Finished(usize),
     Paused(Place),
+}
+
+// How a stretch of commands by themselves ended.
+enum Stretch {
+    // Number, offset, and the operand named.
+    Refused(u32, usize, u32),
+    // The rows.
+    Finished(usize),
+    Paused(Place),
+    // A block is next, and what is left of the budget.
+    Block(Place, u32),
+}
+
+struct StretchEnd {
+    ended: Stretch,
+    storeys: bool,
 }
 
 // A walk: how it ended, and whether it met a storey. No promise rests on the latter: it only tells whether the table of cubes
@@ -107,6 +123,91 @@ fn block_fault(job: &[u8], offset: usize, count: u32, given: bool, walled: bool)
     if walled { 0 } else { 6 }
 }
 
+// The commands by themselves from a place on, up to a block, at most so many. `given` and `sums` are the joints' tables, `table` the cubes where they are lent.
+fn walk_stretch(
+    job: &[u8],
+    start: Place,
+    budget: u32,
+    given: &mut [u8],
+    sums: &mut [u32],
+    table: &[u64],
+    rows: &mut [i64],
+) -> StretchEnd
+    requires table { ⌜ LentCubes (now table) ⌝ }
+    requires asks { ⌜ WalkAsks (now job) start (record { given = now given; sums = now sums }) (roomFor (length (now rows))) ⌝ }
+    ensures { λ r. ⌜ Stretched (roomFor (length (now (rows .entry)))) budget (walkFrom (roomFor (length (now (rows .entry)))) budget (now (job .entry)) start (record { given = now (given .entry); sums = now (sums .entry) }) (now (rows .entry))) (now (job .entry)) (record { given = now (given .exit); sums = now (sums .exit) }) (now (rows .exit)) (r .ended) ⌝ }
+{
+    let room = 8 <= rows.len();
+    let mut offset = start.offset;
+    let mut count = start.count;
+    let mut written = start.rows;
+    let mut state = start.state;
+    let mut left = budget;
+    let mut storeys = false;
+    let ended = 'walk: loop {
+        if left == 0 {
+            break 'walk Stretch::Paused(Place {
+                offset,
+                count,
+                rows: written,
+                state,
+            });
+        }
+        if job.len() <= offset {
+            break 'walk Stretch::Refused(1, offset, 0);
+        }
+        let byte = job[offset];
+        let early = early_fault(job.len(), offset, byte, count, state.given);
+        if early != 0 {
+            if byte == blocks::BLOCK {
+                break 'walk Stretch::Block(
+                    Place {
+                        offset,
+                        count,
+                        rows: written,
+                        state,
+                    },
+                    left,
+                );
+            }
+            break 'walk Stretch::Refused(early, offset, 0);
+        }
+        let command = format::read(job, offset, byte);
+        storeys = storeys | (byte == 7);
+        if !format::command_in_range(command) {
+            let operand_count = layout::operand_count(byte);
+            let mut place = 0;
+            let mut at = offset + 1;
+            while place < operand_count {
+                let form = layout::form_of(byte, place);
+                let width = layout::form_width(form);
+                if !layout::in_range(form, layout::number(job, at, width)) {
+                    break 'walk Stretch::Refused(5, offset, place as u32);
+                }
+                place += 1;
+                at += width;
+            }
+            break 'walk Stretch::Refused(5, offset, format::relation_names(byte));
+        }
+        if context::absent(state, &*given, command) {
+            break 'walk Stretch::Refused(6, offset, 0);
+        }
+        if byte == 0 {
+            if offset + 1 < job.len() {
+                break 'walk Stretch::Refused(3, offset + 1, 0);
+            }
+            break 'walk Stretch::Finished(written);
+        }
+        state = context::next(state, room, command);
+        context::hold_joint(given, sums, room, command);
+        written = rows::emit(rows, written, offset, state, &*sums, table, command);
+        offset = offset + 1 + layout::operands_width(byte);
+        count += 1;
+        left -= 1;
+    };
+    StretchEnd { ended, storeys }
+}
+
 // From a place on, at most so many commands of the file. `given` and `sums` are the joints' tables, `table` the cubes where they are lent.
 pub fn walk(
     job: &[u8],
@@ -121,80 +222,53 @@ pub fn walk(
     requires asks { ⌜ WalkAsks (now job) start (record { given = now given; sums = now sums }) (roomFor (length (now rows))) ⌝ }
     ensures { λ r. ⌜ walkFrom (roomFor (length (now (rows .entry)))) budget (now (job .entry)) start (record { given = now (given .entry); sums = now (sums .entry) }) (now (rows .entry)) ≡ record { answer = r .ended; joints = record { given = now (given .exit); sums = now (sums .exit) }; memory = now (rows .exit) } ⌝ }
 {
-    let room = 8 <= rows.len();
-    let mut offset = start.offset;
-    let mut count = start.count;
-    let mut written = start.rows;
-    let mut state = start.state;
-    let mut left = budget;
-    let mut storeys = false;
+    let mut end = walk_stretch(job, start, budget, given, sums, table, rows);
+    let mut storeys = end.storeys;
     let ended = 'walk: loop {
-        if left == 0 {
-            break 'walk Walked::Paused(Place {
-                offset,
-                count,
-                rows: written,
-                state,
-            });
-        }
-        if job.len() <= offset {
-            break 'walk Walked::Refused(1, offset, 0);
-        }
-        let byte = job[offset];
-        if byte == blocks::BLOCK {
-            let early = block_fault(job, offset, count, state.given, state.walled);
-            if early != 0 {
-                break 'walk Walked::Refused(early, offset, 0);
+        let ended = end.ended;
+        match ended {
+            Stretch::Refused(number, offset, operand) => {
+                break 'walk Walked::Refused(number, offset, operand);
             }
-            let sets = job[offset + 1] as usize;
-            let named = blocks::set_named(job, offset + 2, sets);
-            if named != 0 {
-                break 'walk Walked::Refused(5, offset, named);
+            Stretch::Finished(n) => {
+                break 'walk Walked::Finished(n);
             }
-            storeys = true;
-            written = rows::emit_sets(rows, written, job, offset + 2, sets, state.wall, table);
-            offset = offset + 2 + blocks::SET * sets;
-            let weight = sets as u32;
-            count += weight;
-            left -= 1;
-            continue 'walk;
-        }
-        let early = early_fault(job.len(), offset, byte, count, state.given);
-        if early != 0 {
-            break 'walk Walked::Refused(early, offset, 0);
-        }
-        let command = format::read(job, offset, byte);
-        storeys = storeys | (byte == 7);
-        if !format::command_in_range(command) {
-            let operand_count = layout::operand_count(byte);
-            let mut place = 0;
-            let mut at = offset + 1;
-            while place < operand_count {
-                let form = layout::form_of(byte, place);
-                let width = layout::form_width(form);
-                if !layout::in_range(form, layout::number(job, at, width)) {
-                    break 'walk Walked::Refused(5, offset, place as u32);
+            Stretch::Paused(place) => {
+                break 'walk Walked::Paused(place);
+            }
+            Stretch::Block(place, left) => {
+                let offset = place.offset;
+                let count = place.count;
+                let state = place.state;
+                let early = block_fault(job, offset, count, state.given, state.walled);
+                if early != 0 {
+                    break 'walk Walked::Refused(early, offset, 0);
                 }
-                place += 1;
-                at += width;
+                let sets = job[offset + 1] as usize;
+                let named = blocks::set_named(job, offset + 2, sets);
+                if named != 0 {
+                    break 'walk Walked::Refused(5, offset, named);
+                }
+                let written = rows::emit_sets(
+                    rows,
+                    place.rows,
+                    job,
+                    offset + 2,
+                    sets,
+                    state.wall,
+                    table,
+                );
+                let weight = sets as u32;
+                let next = Place {
+                    offset: offset + 2 + blocks::SET * sets,
+                    count: count + weight,
+                    rows: written,
+                    state,
+                };
+                storeys = true;
+                end = walk_stretch(job, next, left - 1, given, sums, table, rows);
             }
-            break 'walk Walked::Refused(5, offset, format::relation_names(byte));
         }
-        if context::absent(state, &*given, command) {
-            break 'walk Walked::Refused(6, offset, 0);
-        }
-        if byte == 0 {
-            if offset + 1 < job.len() {
-                break 'walk Walked::Refused(3, offset + 1, 0);
-            }
-            break 'walk Walked::Finished(written);
-        }
-        state = context::next(state, room, command);
-        context::hold_joint(given, sums, room, command);
-        written = rows::emit(rows, written, offset, state, &*sums, table, command);
-        offset = offset + 1 + layout::operands_width(byte);
-        count += 1;
-        left -= 1;
     };
     WalkEnd { ended, storeys }
 }

@@ -1,610 +1,341 @@
--- `job::walk` meets its contract. The outer loop's invariant: the whole walk is what is left of it (Stands.antt); the inner loop's:
--- the operands so far are in range (format's Scan.antt). Each way out, and the way on, is a law of Ways.antt. Assumes nothing.
+-- `job::walk` meets its contract. The loop's invariant: the latest stretch leaves as much of any walk as the first one did
+-- (Stretches.antt). Each way out, and the way on after a block, is a law of Ways.antt. Assumes nothing.
 use mathlib.Core.Path.{_≡_, refl, sym, ap, _∙_, subst}
-use mathlib.Core.Bool.{Bool, true, false}
+use mathlib.Core.Bool.{Bool, true}
 use mathlib.Core.List.{List}
-use Prim.Native.Nat.{ℕ, _+_, _-_, _≤_, _<_}
+use Prim.Native.Nat.{ℕ, _+_, _-_, _*_, _^_, _≤_, _<_}
 use native.Mathlib.Omega.{arith}
-use lib.ListN.{length, getD, take, drop}
-use borrow.Author.Tests.{not-true, not-false}
-use Rattle.layout.specs.declared.Form.{Form}
-use Rattle.layout.specs.declared.Form.the-variants.{Id}
-use Rattle.layout.specs.Number.{number}
-use Rattle.layout.specs.Forms.{width, formInRange}
-use Rattle.layout.specs.Layouts.{formsOf}
-use Rattle.layout.specs.Operands.{byteAt}
-use Rattle.layout.proofs.Numbers.{Bytes}
-use Rattle.layout.proofs.OperandsRead.{width-is as form-width-is}
-use Rattle.format.specs.Commands.{inRange, operandAtFault}
-use Rattle.format.specs.Reading.{commandAt}
-use Rattle.format.proofs.Scan.{Scanning, begins, command-scanned, next-fits, place-fits, found, scans-on, scanned}
-use Rattle.blocks.specs.Sets.{isBlock, countAt, setsOf, allInRange}
+use lib.ListN.{length}
+use borrow.Author.Needs.{needs}
+use Rattle.blocks.specs.Sets.{countAt, setsOf, allInRange}
 use Rattle.blocks.proofs.Sets.{count-range}
-use Rattle.context.specs.Running.{roomFor, JointTable, absentIn, SoundState, SoundSums}
-use Rattle.context.proofs.Laws.{next-sound, sums-sound}
+use Rattle.context.specs.Running.{roomFor, JointTable, SoundSums}
 use Rattle.job.specs.declared.Place.{Place}
-use Rattle.job.specs.declared.Walked.the-variants.{Refused}
-use Rattle.job.specs.Walking.{walkFrom, Final}
-use Rattle.job.proofs.Faultless.{other-byte}
-use Rattle.job.proofs.Steps.{stop, early-none, block-early-none}
+use Rattle.job.specs.Walking.{walkFrom, Final, Stretched, BeforeBlock}
+use Rattle.job.proofs.Steps.{block-early-none}
 use Rattle.job.proofs.Stands.{Stands}
-use Rattle.job.proofs.Ways.{Reached, BlockReached, pauses, ends-short, refused-early, out-of-range, absence, bytes-after, done, on, block-refused-early, set-refused, sets-ranged, block-on}
+use Rattle.job.proofs.Ways.{BlockReached, block-refused-early, set-refused, sets-ranged, block-on}
+use Rattle.job.proofs.Stretches.{leftOf, left-within, Onward, stands-before, onward}
 use Rattle.job.proofs.walk.Statement.{statement}
 use Rattle.job.proofs.walk.Tie as tie
 
-abbrev Inv-loop : tie.InvT-loop
-Inv-loop job budget given sums table rows room offset count written left storeys byte early operand-count place₀ at₀ place at =
-    Scanning job (byteAt job offset) (offset + 1) place at
-
-abbrev μ-loop : tie.MeasureT-loop
-μ-loop job budget given sums table rows room offset count written left storeys byte early operand-count place₀ at₀ place at =
-    operand-count - place
-
 abbrev Inv-walk : tie.InvT-walk
-Inv-walk job budget given₀ sums₀ table rows₀ room offset₀ count₀ written₀ state₀ left₀ storeys₀ given sums rows offset count written state left storeys =
-    Stands room (walkFrom room left₀ job (record { offset = offset₀; count = count₀; rows = written₀; state = state₀ }) (record { given = given₀; sums = sums₀ }) rows₀) job
-    (record { given = given₀; sums = sums₀ }) rows₀ (record { given = given; sums = sums }) rows (record { offset = offset; count = count; rows = written; state = state }) left
+Inv-walk job budget given₀ sums₀ table rows₀ end₀ storeys₀ given sums rows end storeys =
+    Onward (roomFor (length rows₀)) budget job (record { given = given₀; sums = sums₀ }) rows₀ (end₀ .ended) (record { given = given; sums = sums }) rows (end .ended)
 
 abbrev μ-walk : tie.MeasureT-walk
-μ-walk job budget given₀ sums₀ table rows₀ room offset₀ count₀ written₀ state₀ left₀ storeys₀ given sums rows offset count written state left storeys =
-    left
+μ-walk job budget given₀ sums₀ table rows₀ end₀ storeys₀ given sums rows end storeys = leftOf (end .ended)
 
--- ---- where the walk stands, at the head of the outer loop
+-- ---- where the walk stands, at the head of the loop
 
-abbrev start-at : tie.At-walk Inv-loop μ-loop Inv-walk μ-walk → tie.Start Inv-loop μ-loop Inv-walk μ-walk
-start-at w = w .before .before .before .before .before .before
+abbrev first-stretch : tie.At-walk Inv-walk μ-walk → tie.After-walk-stretch Inv-walk μ-walk
+first-stretch w = w .before .before .before .before .before .before
 
-abbrev job-at : tie.At-walk Inv-loop μ-loop Inv-walk μ-walk → List ℕ
+abbrev start-at : tie.At-walk Inv-walk μ-walk → tie.Start Inv-walk μ-walk
+start-at w = first-stretch w .before .before .before .before .before .before .before .before
+
+abbrev job-at : tie.At-walk Inv-walk μ-walk → List ℕ
 job-at w = start-at w .args .job .now
 
-abbrev place-at : tie.At-walk Inv-loop μ-loop Inv-walk μ-walk → Place
-place-at w = record { offset = w .walk .offset; count = w .walk .count; rows = w .walk .written; state = w .walk .state }
-
-abbrev joints-at : tie.At-walk Inv-loop μ-loop Inv-walk μ-walk → JointTable
+abbrev joints-at : tie.At-walk Inv-walk μ-walk → JointTable
 joints-at w = record { given = w .walk .given; sums = w .walk .sums }
 
-abbrev room-at : tie.At-walk Inv-loop μ-loop Inv-walk μ-walk → Bool
-room-at w = roomFor (length (start-at w .args .rows .now))
+-- the room, by the rows that the first stretch left
+abbrev room-at : tie.At-walk Inv-walk μ-walk → Bool
+room-at w = roomFor (length (first-stretch w .walk-stretch .last .1 .1 .1 .1 .1 .1 .0))
 
--- the tables and the whole walk, as they were lent
-abbrev lent-at : tie.At-walk Inv-loop μ-loop Inv-walk μ-walk → JointTable
-lent-at w = record { given = start-at w .args .given .now; sums = start-at w .args .sums .now }
+-- the whole walk, with the tables and the rows as they were lent
+abbrev whole : tie.At-walk Inv-walk μ-walk → Final
+whole w =
+    let a = start-at w .args in
+    walkFrom (roomFor (length (a .rows .now))) (a .budget) (a .job .now) (a .start) (record { given = a .given .now; sums = a .sums .now }) (a .rows .now)
 
-abbrev whole : tie.At-walk Inv-loop μ-loop Inv-walk μ-walk → Final
-whole w = let s = start-at w in walkFrom (room-at w) (s .args .budget) (job-at w) (s .args .start) (lent-at w) (s .args .rows .now)
+-- what the latest stretch leaves of it
+stretched : (w : tie.At-walk Inv-walk μ-walk) → Stretched (room-at w) (start-at w .args .budget) (whole w) (job-at w) (joints-at w) (w .walk .rows) (w .walk .end .ended)
+stretched w =
+    let f = first-stretch w .walk-stretch in
+    w .walk .inv .same (whole w)
+    (subst (λ (room : Bool). Stretched room (start-at w .args .budget) (whole w) (job-at w) (record { given = f .last .1 .1 .1 .0; sums = f .last .1 .1 .1 .1 .0 }) (f .last .1 .1 .1 .1 .1 .1 .0) (f .result .ended))
+    (sym (ap roomFor (f .kept .1 .1 .1 .1 .1 .1 .0))) (f .ensures))
 
--- the job's elements are bytes
-bytes-at : (w : tie.At-walk Inv-loop μ-loop Inv-walk μ-walk) → Bytes (job-at w)
-bytes-at w k = w .before .before .before .before .before .shared-slice-known .given k .fits
+given-kept : (w : tie.At-walk Inv-walk μ-walk) → length (w .walk .given) ≡ length (start-at w .args .given .now)
+given-kept w = w .walk .inv .given-kept ∙ first-stretch w .walk-stretch .kept .1 .1 .1 .0
 
--- the room stays what it was
-room-kept : (w : tie.At-walk Inv-loop μ-loop Inv-walk μ-walk) → roomFor (length (w .walk .rows)) ≡ room-at w
-room-kept w = ap roomFor (w .walk .inv .rows-kept)
+sums-kept : (w : tie.At-walk Inv-walk μ-walk) → length (w .walk .sums) ≡ length (start-at w .args .sums .now)
+sums-kept w = w .walk .inv .sums-kept ∙ first-stretch w .walk-stretch .kept .1 .1 .1 .1 .0
 
-positive : (n : ℕ) → (n ≡ 0 → ⊥) → 0 < n
-positive n h = omega arith
+rows-kept : (w : tie.At-walk Inv-walk μ-walk) → length (w .walk .rows) ≡ length (start-at w .args .rows .now)
+rows-kept w = w .walk .inv .rows-kept ∙ first-stretch w .walk-stretch .kept .1 .1 .1 .1 .1 .1 .0
 
--- ---- a command that may be read
+-- ---- a block is next
 
-abbrev head3 : tie.Else6 Inv-loop μ-loop Inv-walk μ-walk → tie.At-walk Inv-loop μ-loop Inv-walk μ-walk
-head3 c = c .before .before .before .before .before .before
+module _ (c : tie.After-state Inv-walk μ-walk) where
+  abbrev w : tie.At-walk Inv-walk μ-walk
+  w = c .before .before .before .before
 
-reached : (c : tie.Else6 Inv-loop μ-loop Inv-walk μ-walk) → let w = head3 c in Reached (job-at w) (place-at w) (w .walk .left)
-reached c =
-    let w = head3 c in
-    record {
-      some-left = positive (w .walk .left) (c .before .before .before .before .before .if1 .left);
-      inside = c .before .before .before .before .if2 .left;
-      single = other-byte (byteAt (job-at w) (w .walk .offset)) (c .before .before .if3 .left);
-      early = early-none (job-at w) (place-at w) (sym (c .before .early-fault .ensures) ∙ c .if6 .left);
-    }
+  abbrev place : Place
+  place = c .before .before .ended4 .given .0 .0
 
-abbrev head5 : tie.Then6 Inv-loop μ-loop Inv-walk μ-walk → tie.At-walk Inv-loop μ-loop Inv-walk μ-walk
-head5 c = c .before .before .before .before .before .before
+  abbrev left : ℕ
+  left = c .before .before .ended4 .given .0 .1 .0
 
-abbrev head4 : tie.After-command-in-range Inv-loop μ-loop Inv-walk μ-walk → tie.At-walk Inv-loop μ-loop Inv-walk μ-walk
-head4 c = head3 (c .before .before)
+  before-block : BeforeBlock (room-at w) (start-at w .args .budget) (whole w) (job-at w) (joints-at w) (w .walk .rows) place left
+  before-block = subst (Stretched (room-at w) (start-at w .args .budget) (whole w) (job-at w) (joints-at w) (w .walk .rows)) (c .before .before .ended4 .given .1) (stretched w)
 
--- ---- the inner loop
+  standing : Stands (room-at w) (whole w) (job-at w) (joints-at w) (w .walk .rows) (joints-at w) (w .walk .rows) place left
+  standing = stands-before (room-at w) (start-at w .args .budget) (whole w) (job-at w) (joints-at w) (w .walk .rows) place left before-block
 
-abbrev loop3 : tie.At-loop Inv-loop μ-loop Inv-walk μ-walk → tie.Else6 Inv-loop μ-loop Inv-walk μ-walk
-loop3 l = l .before .before .before .before .before
+-- its sets may be read
+module _ (c : tie.Else1 Inv-walk μ-walk) where
+  abbrev s : tie.After-state Inv-walk μ-walk
+  s = c .before .before
 
-abbrev loop-head : tie.At-loop Inv-loop μ-loop Inv-walk μ-walk → tie.At-walk Inv-loop μ-loop Inv-walk μ-walk
-loop-head l = head3 (loop3 l)
+  reached : BlockReached (job-at (w s)) (place s) (left s)
+  reached =
+      record {
+        some-left = before-block s .some-left;
+        inside = before-block s .inside;
+        many = before-block s .block;
+        early = block-early-none (job-at (w s)) (place s) (sym (c .before .block-fault .ensures) ∙ c .if1 .left);
+      }
 
-forms-left : (c : tie.In-loop Inv-loop μ-loop Inv-walk μ-walk) → c .before .loop .place < length (formsOf (byteAt (job-at (loop-head (c .before))) (loop-head (c .before) .walk .offset)))
-forms-left c = omega (arith, c .loop-test .taken, c .before .before .operand-count .ensures)
+  -- at most 64
+  few-sets : countAt (job-at (w s)) (place s .offset) ≤ 64
+  few-sets = count-range (countAt (job-at (w s)) (place s .offset)) (reached .early .count-in-range) .1
 
-module _ (c : tie.After-form-width Inv-loop μ-loop Inv-walk μ-walk) where
-  abbrev turn : tie.At-loop Inv-loop μ-loop Inv-walk μ-walk
-  turn = c .before .before .before
+  whole-block : place s .offset + 2 + 24 * countAt (job-at (w s)) (place s .offset) < 2 ^ 64
+  whole-block = omega (arith, reached .early .whole, start-at (w s) .good .0)
 
-  abbrev w : tie.At-walk Inv-loop μ-loop Inv-walk μ-walk
-  w = loop-head turn
+-- they are in range
+module _ (f : tie.Else2 Inv-walk μ-walk) where
+  abbrev e : tie.Else1 Inv-walk μ-walk
+  e = f .before .before .before
 
-  abbrev form : Form
-  form = getD (formsOf (byteAt (job-at w) (w .walk .offset))) (turn .loop .place) Id
+  ranged : allInRange (setsOf (job-at (w (s e))) (place (s e) .offset)) ≡ true
+  ranged =
+      let h = w (s e) in
+      sets-ranged (room-at h) (whole h) (job-at h) (joints-at h) (h .walk .rows) (joints-at h) (h .walk .rows) (place (s e)) (left (s e)) (standing (s e)) (reached e)
+      (f .before .set-named .result) (f .before .set-named .ensures) (f .if2 .left)
 
-  width-is : c .form-width .result ≡ width form
-  width-is = c .form-width .ensures ∙ ap width (c .before .form-of .ensures)
+-- the walk after it
+module _ (m : tie.After-rows2 Inv-walk μ-walk) where
+  abbrev ok : tie.Else2 Inv-walk μ-walk
+  ok = m .before .before .before
 
-  fits-job : turn .loop .at + c .form-width .result ≤ length (job-at w)
-  fits-job = omega (arith, width-is, next-fits (job-at w) (byteAt (job-at w) (w .walk .offset)) (w .walk .offset + 1) (turn .loop .place) (turn .loop .at) (turn .loop .inv) (forms-left (c .before .before)) (reached (loop3 turn) .early .whole))
+  abbrev e2 : tie.Else1 Inv-walk μ-walk
+  e2 = e ok
 
-value-is : (c : tie.After-number Inv-loop μ-loop Inv-walk μ-walk) → c .number .result ≡ number (take (width (form (c .before))) (drop (turn (c .before) .loop .at) (job-at (w (c .before)))))
-value-is c = c .number .ensures ∙ ap (λ (n : ℕ). number (take n (drop (turn (c .before) .loop .at) (job-at (w (c .before)))))) (width-is (c .before))
+  abbrev h2 : tie.At-walk Inv-walk μ-walk
+  h2 = w (s e2)
 
-tested : (c : tie.After-in-range Inv-loop μ-loop Inv-walk μ-walk) → c .in-range .result ≡ formInRange (form (c .before .before)) (c .before .number .result)
-tested c = c .in-range .ensures ∙ ap (λ (f : Form). formInRange f (c .before .number .result)) (c .before .before .before .form-of .ensures)
+  abbrev next : Place
+  next =
+      record {
+        offset = place (s e2) .offset + 2 + 24 * countAt (job-at h2) (place (s e2) .offset);
+        count = place (s e2) .count + countAt (job-at h2) (place (s e2) .offset);
+        rows = m .before .emit-sets .result;
+        state = place (s e2) .state;
+      }
 
-turn-place : (c : tie.After-in-range Inv-loop μ-loop Inv-walk μ-walk) → let l = turn (c .before .before) in l .loop .place < 16
-turn-place c =
-    let f = c .before .before in
-    place-fits (job-at (w f)) (byteAt (job-at (w f)) (w f .walk .offset)) (w f .walk .offset + 1) (turn f .loop .place) (turn f .loop .at) (turn f .loop .inv) (forms-left (f .before .before))
+  passed : Stands (room-at h2) (whole h2) (job-at h2) (joints-at h2) (h2 .walk .rows) (joints-at h2) (m .before .emit-sets .last .0) next (left (s e2) - 1)
+  passed =
+      block-on (room-at h2) (whole h2) (job-at h2) (joints-at h2) (h2 .walk .rows) (joints-at h2) (h2 .walk .rows) (place (s e2)) (left (s e2)) (standing (s e2)) (reached e2)
+      (ok .before .set-named .result) (ok .before .set-named .ensures) (ok .if2 .left)
+      (m .before .emit-sets .last .0) _ _ (m .before .emit-sets .result) (m .before .emit-sets .ensures .1) (m .before .emit-sets .ensures .0) refl refl
 
--- ---- the ways out of the inner loop: the command is out of range, and the operand at fault
+  room-kept : room-at h2 ≡ roomFor (length (m .before .emit-sets .last .0))
+  room-kept = ap roomFor (sym (m .before .emit-sets .kept .0 ∙ h2 .walk .inv .rows-kept))
 
-outside : (l : tie.At-loop Inv-loop μ-loop Inv-walk μ-walk) (o : ℕ) → let w = loop-head l in
-    operandAtFault (commandAt (job-at w) (w .walk .offset)) ≡ o →
-    whole w ≡ stop (joints-at w) (w .walk .rows) (Refused 5 (w .walk .offset) o)
-outside l o e =
-    let w = loop-head l in
-    let t = l .before .before in
-    out-of-range (room-at w) (whole w) (job-at w) (lent-at w) (start-at w .args .rows .now) (joints-at w) (w .walk .rows) (place-at w) (w .walk .left) (w .walk .inv) (reached (loop3 l))
-    (t .before .before .read .result) (t .before .before .read .ensures)
-    (sym (t .before .command-in-range .ensures) ∙ not-true (t .before .command-in-range .result) (t .if7 .taken)) o e
+-- ---- the needs
 
--- ---- after the tests
+walk-stretch-requires : tie.Need-walk-stretch-requires Inv-walk μ-walk
+walk-stretch-requires c κs = let s = c .before .before .before .before .before .before .before in s .pre
 
-module _ (c : tie.Else7 Inv-loop μ-loop Inv-walk μ-walk) where
-  abbrev r4 : tie.After-read Inv-loop μ-loop Inv-walk μ-walk
-  r4 = c .before .before
+walk-holds : tie.Need-walk-holds Inv-walk μ-walk
+walk-holds c = record { same = λ whole h. h; given-kept = refl; sums-kept = refl; rows-kept = refl }
 
-  abbrev w4 : tie.At-walk Inv-loop μ-loop Inv-walk μ-walk
-  w4 = head3 (r4 .before)
+enum-known-ended : tie.Need-enum-known-ended Inv-walk μ-walk
+enum-known-ended c = search needs
 
-  in-range-4 : inRange (r4 .read .result) ≡ true
-  in-range-4 = sym (c .before .command-in-range .ensures) ∙ not-false (c .before .command-in-range .result) (c .if7 .left)
+enum-known-ended-2 : tie.Need-enum-known-ended-2 Inv-walk μ-walk
+enum-known-ended-2 c = search needs
 
-abbrev else4 : tie.Else9 Inv-loop μ-loop Inv-walk μ-walk → tie.Else7 Inv-loop μ-loop Inv-walk μ-walk
-else4 c = c .before .before .before
+enum-known-ended-3 : tie.Need-enum-known-ended-3 Inv-walk μ-walk
+enum-known-ended-3 c = search needs
 
-abbrev w6 : tie.Else9 Inv-loop μ-loop Inv-walk μ-walk → tie.At-walk Inv-loop μ-loop Inv-walk μ-walk
-w6 c = w4 (else4 c)
+enum-known-ended-4 : tie.Need-enum-known-ended-4 Inv-walk μ-walk
+enum-known-ended-4 c = search needs
 
-present : (c : tie.Else9 Inv-loop μ-loop Inv-walk μ-walk) → let w = w6 c in absentIn (w .walk .state) (w .walk .given) (r4 (else4 c) .read .result) ≡ false
-present c = sym (c .before .absent .ensures) ∙ c .if9 .left
+block-fault-requires : tie.Need-block-fault-requires Inv-walk μ-walk
+block-fault-requires c κs = (before-block c .inside, before-block c .asks .count)
 
--- ---- after the command
+add-sets : tie.Need-add-sets Inv-walk μ-walk
+add-sets c = omega (arith, whole-block c)
 
-abbrev else7 : tie.After-next Inv-loop μ-loop Inv-walk μ-walk → tie.Else10 Inv-loop μ-loop Inv-walk μ-walk
-else7 c = c .before
+shared-slice-read-sets : tie.Need-shared-slice-read-sets Inv-walk μ-walk
+shared-slice-read-sets c = reached (c .before) .early .counted
 
-abbrev at-next : tie.After-hold-joint Inv-loop μ-loop Inv-walk μ-walk → tie.After-next Inv-loop μ-loop Inv-walk μ-walk
-at-next c = c .before .before .before
-
-abbrev at-emit : tie.After-emit Inv-loop μ-loop Inv-walk μ-walk → tie.After-hold-joint Inv-loop μ-loop Inv-walk μ-walk
-at-emit c = c .before .before .before .before .before .before .before
-
-abbrev emitted : tie.After-operands-width Inv-loop μ-loop Inv-walk μ-walk → tie.After-emit Inv-loop μ-loop Inv-walk μ-walk
-emitted c = c .before .before
-
-module _ (c : tie.After-hold-joint Inv-loop μ-loop Inv-walk μ-walk) where
-  abbrev next7 : tie.After-next Inv-loop μ-loop Inv-walk μ-walk
-  next7 = at-next c
-
-  abbrev six : tie.Else9 Inv-loop μ-loop Inv-walk μ-walk
-  six = next7 .before .before
-
-  abbrev w7 : tie.At-walk Inv-loop μ-loop Inv-walk μ-walk
-  w7 = w6 six
-
-  abbrev r7 : tie.After-read Inv-loop μ-loop Inv-walk μ-walk
-  r7 = r4 (else4 six)
-
-  sound-state : SoundState (next7 .next .result)
-  sound-state = subst SoundState (sym (next7 .next .ensures)) (next-sound (room-at w7) (w7 .walk .state) (r7 .read .result) (w7 .walk .inv .state) (in-range-4 (else4 six)))
-
-  sound-sums : SoundSums (room-at w7) (c .hold-joint .last .1 .0)
-  sound-sums = subst (SoundSums (room-at w7)) (sym (c .hold-joint .ensures .1)) (sums-sound (room-at w7) (w7 .walk .sums) (r7 .read .result) (w7 .walk .inv .sums) (in-range-4 (else4 six)))
-
--- ---- a block
-
-abbrev block-head : tie.Else4 Inv-loop μ-loop Inv-walk μ-walk → tie.At-walk Inv-loop μ-loop Inv-walk μ-walk
-block-head c = c .before .before .before .before .before .before
-
-is-block : (byte : ℕ) → byte ≡ 11 → isBlock byte ≡ true
-is-block byte e = rw e
-
-block-reached : (c : tie.Else4 Inv-loop μ-loop Inv-walk μ-walk) → let w = block-head c in BlockReached (job-at w) (place-at w) (w .walk .left)
-block-reached c =
-    let w = block-head c in
-    let i = c .before .before .before .before in
-    record {
-      some-left = positive (w .walk .left) (i .before .if1 .left);
-      inside = i .if2 .left;
-      many = is-block (byteAt (job-at w) (w .walk .offset)) (c .before .before .if3 .taken);
-      early = block-early-none (job-at w) (place-at w) (sym (c .before .block-fault .ensures) ∙ c .if4 .left);
-    }
-
--- at most 64 sets
-few-sets : (c : tie.Else4 Inv-loop μ-loop Inv-walk μ-walk) → let w = block-head c in countAt (job-at w) (w .walk .offset) ≤ 64
-few-sets c = let w = block-head c in count-range (countAt (job-at w) (w .walk .offset)) (block-reached c .early .count-in-range) .1
-
-abbrev block-sets : tie.After-emit-sets Inv-loop μ-loop Inv-walk μ-walk → tie.Else5 Inv-loop μ-loop Inv-walk μ-walk
-block-sets c = c .before .before
-
-abbrev block-else : tie.Else5 Inv-loop μ-loop Inv-walk μ-walk → tie.Else4 Inv-loop μ-loop Inv-walk μ-walk
-block-else c = c .before .before .before
-
-ranged : (f : tie.Else5 Inv-loop μ-loop Inv-walk μ-walk) → let w = block-head (block-else f) in allInRange (setsOf (job-at w) (w .walk .offset)) ≡ true
-ranged f =
-    let e = block-else f in
-    let w = block-head e in
-    sets-ranged (room-at w) (whole w) (job-at w) (lent-at w) (start-at w .args .rows .now) (joints-at w) (w .walk .rows) (place-at w) (w .walk .left) (w .walk .inv) (block-reached e)
-    (f .before .set-named .result) (f .before .set-named .ensures) (f .if5 .left)
-
-walk-holds : tie.Need-walk-holds Inv-loop μ-loop Inv-walk μ-walk
-walk-holds c =
-    let s = c .before .before .before .before .before in
-    let a = s .pre .1 in
-    record { same = refl; state = a .state; given = a .given; sums = a .sums; offset = a .offset; count = a .count; written = a .rows; given-kept = refl; sums-kept = refl; rows-kept = refl }
-
-shared-slice-read-byte : tie.Need-shared-slice-read-byte Inv-loop μ-loop Inv-walk μ-walk
-shared-slice-read-byte c = c .before .if2 .left
-
-block-fault-requires : tie.Need-block-fault-requires Inv-loop μ-loop Inv-walk μ-walk
-block-fault-requires c κs = let i = c .before .before in (i .if2 .left, i .before .before .walk .inv .count)
-
-add-sets : tie.Need-add-sets Inv-loop μ-loop Inv-walk μ-walk
-add-sets c = omega (arith, block-reached c .early .counted, start-at (block-head c) .good .0)
-
-shared-slice-read-sets : tie.Need-shared-slice-read-sets Inv-loop μ-loop Inv-walk μ-walk
-shared-slice-read-sets c = block-reached (c .before) .early .counted
-
-cast-sets : tie.Need-cast-sets Inv-loop μ-loop Inv-walk μ-walk
+cast-sets : tie.Need-cast-sets Inv-walk μ-walk
 cast-sets c = omega (arith, few-sets (c .before))
 
-add-set-named : tie.Need-add-set-named Inv-loop μ-loop Inv-walk μ-walk
-add-set-named c = omega (arith, block-reached (c .before) .early .whole, start-at (block-head (c .before)) .good .0)
+add-set-named : tie.Need-add-set-named Inv-walk μ-walk
+add-set-named c = omega (arith, whole-block (c .before))
 
-set-named-requires : tie.Need-set-named-requires Inv-loop μ-loop Inv-walk μ-walk
-set-named-requires c κs = (block-reached (c .before) .early .whole, few-sets (c .before))
+set-named-requires : tie.Need-set-named-requires Inv-walk μ-walk
+set-named-requires c κs = (reached (c .before) .early .whole, few-sets (c .before))
 
-add-emit-sets : tie.Need-add-emit-sets Inv-loop μ-loop Inv-walk μ-walk
-add-emit-sets c = let e = block-else (c .before) in omega (arith, block-reached e .early .whole, start-at (block-head e) .good .0)
+add-emit-sets : tie.Need-add-emit-sets Inv-walk μ-walk
+add-emit-sets c = omega (arith, whole-block (e (c .before)))
 
-emit-sets-requires : tie.Need-emit-sets-requires Inv-loop μ-loop Inv-walk μ-walk
+emit-sets-requires : tie.Need-emit-sets-requires Inv-walk μ-walk
 emit-sets-requires c κs =
     let f = c .before in
-    let e = block-else f in
-    let w = block-head e in (
-      start-at w .pre .0,
+    let h = w (s (e f)) in (
+      start-at h .pre .0,
       (
-        record { wall = w .walk .inv .state .wall; whole = block-reached e .early .whole; in-range = ranged f },
-        omega (arith, w .walk .inv .written, block-reached e .early .few),
+        record { wall = before-block (s (e f)) .asks .state .wall; whole = reached (e f) .early .whole; in-range = ranged f },
+        omega (arith, before-block (s (e f)) .asks .rows, reached (e f) .early .few),
       ),
     )
 
-add-offset : tie.Need-add-offset Inv-loop μ-loop Inv-walk μ-walk
-add-offset c = let e = block-else (block-sets (c .before)) in omega (arith, block-reached e .early .whole, start-at (block-head e) .good .0)
+cast-weight : tie.Need-cast-weight Inv-walk μ-walk
+cast-weight c = omega (arith, few-sets (e2 c))
 
-mul-offset : tie.Need-mul-offset Inv-loop μ-loop Inv-walk μ-walk
-mul-offset c = omega (arith, few-sets (block-else (block-sets (c .before))))
+add-t36 : tie.Need-add-t36 Inv-walk μ-walk
+add-t36 c = omega (arith, whole-block (e2 c))
 
-add-offset-2 : tie.Need-add-offset-2 Inv-loop μ-loop Inv-walk μ-walk
-add-offset-2 c = let e = block-else (block-sets (c .before)) in omega (arith, block-reached e .early .whole, start-at (block-head e) .good .0)
+mul-t41 : tie.Need-mul-t41 Inv-walk μ-walk
+mul-t41 c = omega (arith, few-sets (e2 c))
 
-cast-weight : tie.Need-cast-weight Inv-loop μ-loop Inv-walk μ-walk
-cast-weight c = omega (arith, few-sets (block-else (block-sets (c .before))))
+add-t42 : tie.Need-add-t42 Inv-walk μ-walk
+add-t42 c = omega (arith, whole-block (e2 c))
 
-add-count : tie.Need-add-count Inv-loop μ-loop Inv-walk μ-walk
-add-count c = omega (arith, block-reached (block-else (block-sets (c .before))) .early .few)
+add-walk-stretch : tie.Need-add-walk-stretch Inv-walk μ-walk
+add-walk-stretch c = omega (arith, reached (e2 c) .early .few)
 
-sub-left : tie.Need-sub-left Inv-loop μ-loop Inv-walk μ-walk
-sub-left c = block-reached (block-else (block-sets (c .before))) .some-left
+sub-walk-stretch : tie.Need-sub-walk-stretch Inv-walk μ-walk
+sub-walk-stretch c = reached (e2 c) .some-left
 
-walk-less : tie.Need-walk-less Inv-loop μ-loop Inv-walk μ-walk
-walk-less c = omega (arith, block-reached (block-else (block-sets (c .before))) .some-left)
+walk-stretch-requires-2 : tie.Need-walk-stretch-requires-2 Inv-walk μ-walk
+walk-stretch-requires-2 c κs =
+    let m = c .before .before .before in
+    let p = passed m in (
+      start-at (h2 m) .pre .0,
+      record { state = p .state; given = p .given; sums = subst (λ (room : Bool). SoundSums room (h2 m .walk .sums)) (room-kept m) (p .sums); offset = p .offset; count = p .count; rows = p .written },
+    )
 
-walk-again : tie.Need-walk-again Inv-loop μ-loop Inv-walk μ-walk
+walk-less : tie.Need-walk-less Inv-walk μ-walk
+walk-less c =
+    let t = c .before .before .before .before .before in
+    let m = t .before .before .before .before in
+    let n = s (e2 m) in
+    omega (
+      arith,
+      left-within (roomFor (length (m .before .emit-sets .last .0))) (left n - 1) _ (job-at (h2 m)) _ _ (t .walk-stretch2 .result .ended) (t .walk-stretch2 .ensures),
+      ap leftOf (n .before .before .ended4 .given .1),
+      before-block n .some-left,
+    )
+
+walk-again : tie.Need-walk-again Inv-walk μ-walk
 walk-again c =
-    let m = c .before in
-    let f = block-sets m in
-    let e = block-else f in
-    let w = block-head e in
-    block-on (room-at w) (whole w) (job-at w) (lent-at w) (start-at w .args .rows .now) (joints-at w) (w .walk .rows) (place-at w) (w .walk .left) (w .walk .inv) (block-reached e)
-    (f .before .set-named .result) (f .before .set-named .ensures) (f .if5 .left)
-    (m .emit-sets .last .0) _ _ (m .emit-sets .result) (m .emit-sets .ensures .1) (m .emit-sets .ensures .0) refl refl
+    let t = c .before .before .before .before .before in
+    let m = t .before .before .before .before in
+    let n = s (e2 m) in
+    let h = h2 m in
+    let f = first-stretch h .walk-stretch in
+    let g = t .walk-stretch2 in
+    let rows = m .before .emit-sets .last .0 in
+    let after =
+        subst
+        (λ (room : Bool). Stretched room (left n - 1) (walkFrom room (left n - 1) (job-at h) (next m) (joints-at h) rows) (job-at h) (record { given = g .last .1 .1 .1 .0; sums = g .last .1 .1 .1 .1 .0 }) (g .last .1 .1 .1 .1 .1 .1 .0) (g .result .ended))
+        (sym (room-kept m)) (g .ensures) in
+    onward (room-at h) (start-at h .args .budget) (job-at h) (record { given = f .last .1 .1 .1 .0; sums = f .last .1 .1 .1 .1 .0 }) (f .last .1 .1 .1 .1 .1 .1 .0) (f .result .ended)
+    (joints-at h) (h .walk .rows) (h .walk .end .ended) (h .walk .inv) (place n) (left n) (n .before .before .ended4 .given .1) (next m) (m .before .emit-sets .last .0)
+    (sym (before-block n .same) ∙ passed m .same)
+    (record { given = g .last .1 .1 .1 .0; sums = g .last .1 .1 .1 .1 .0 }) (g .last .1 .1 .1 .1 .1 .1 .0) (g .result .ended) after
+    (g .kept .1 .1 .1 .0) (g .kept .1 .1 .1 .1 .0) (g .kept .1 .1 .1 .1 .1 .1 .0 ∙ m .before .emit-sets .kept .0)
 
-early-fault-requires : tie.Need-early-fault-requires Inv-loop μ-loop Inv-walk μ-walk
-early-fault-requires c κs = c .before .before .if2 .left
+same-length : tie.Need-same-length Inv-walk μ-walk
+same-length c = given-kept (c .before .before .before)
 
-read-requires : tie.Need-read-requires Inv-loop μ-loop Inv-walk μ-walk
-read-requires c κs = (refl, reached c .early .whole)
+same-length-2 : tie.Need-same-length-2 Inv-walk μ-walk
+same-length-2 c = sums-kept (c .before .before .before)
 
-command-in-range-requires : tie.Need-command-in-range-requires Inv-loop μ-loop Inv-walk μ-walk
-command-in-range-requires c κs = tt
+same-length-3 : tie.Need-same-length-3 Inv-walk μ-walk
+same-length-3 c = rows-kept (c .before .before .before)
 
-operand-count-requires : tie.Need-operand-count-requires Inv-loop μ-loop Inv-walk μ-walk
-operand-count-requires c κs = tt
+returns : tie.Need-returns Inv-walk μ-walk
+returns c = let w = c .before .before .before in subst (Stretched (room-at w) (start-at w .args .budget) (whole w) (job-at w) (joints-at w) (w .walk .rows)) (c .before .ended .given .1) (stretched w)
 
-add-at : tie.Need-add-at Inv-loop μ-loop Inv-walk μ-walk
-add-at c = let e = c .before .before .before .before in omega (arith, reached e .inside, start-at (head3 e) .good .0)
+same-length-4 : tie.Need-same-length-4 Inv-walk μ-walk
+same-length-4 c = given-kept (c .before .before .before)
 
-loop-holds : tie.Need-loop-holds Inv-loop μ-loop Inv-walk μ-walk
-loop-holds c = let w = head3 (c .before .before .before .before) in begins (job-at w) (byteAt (job-at w) (w .walk .offset)) (w .walk .offset + 1)
+same-length-5 : tie.Need-same-length-5 Inv-walk μ-walk
+same-length-5 c = sums-kept (c .before .before .before)
 
-form-of-requires : tie.Need-form-of-requires Inv-loop μ-loop Inv-walk μ-walk
-form-of-requires c κs = tt
+same-length-6 : tie.Need-same-length-6 Inv-walk μ-walk
+same-length-6 c = rows-kept (c .before .before .before)
 
-form-width-requires : tie.Need-form-width-requires Inv-loop μ-loop Inv-walk μ-walk
-form-width-requires c κs = tt
+returns-2 : tie.Need-returns-2 Inv-walk μ-walk
+returns-2 c = let w = c .before .before .before in subst (Stretched (room-at w) (start-at w .args .budget) (whole w) (job-at w) (joints-at w) (w .walk .rows)) (c .before .ended2 .given .1) (stretched w)
 
-number-requires : tie.Need-number-requires Inv-loop μ-loop Inv-walk μ-walk
-number-requires c κs = record { inside = fits-job c; bytes = rw (width-is c) (form-width-is (form c)) }
+same-length-7 : tie.Need-same-length-7 Inv-walk μ-walk
+same-length-7 c = given-kept (c .before .before .before)
 
-in-range-requires : tie.Need-in-range-requires Inv-loop μ-loop Inv-walk μ-walk
-in-range-requires c κs = tt
+same-length-8 : tie.Need-same-length-8 Inv-walk μ-walk
+same-length-8 c = sums-kept (c .before .before .before)
 
-cast-t46 : tie.Need-cast-t46 Inv-loop μ-loop Inv-walk μ-walk
-cast-t46 c = omega (arith, turn-place (c .before))
+same-length-9 : tie.Need-same-length-9 Inv-walk μ-walk
+same-length-9 c = rows-kept (c .before .before .before)
 
-add-place : tie.Need-add-place Inv-loop μ-loop Inv-walk μ-walk
-add-place c = omega (arith, turn-place (c .before))
+returns-3 : tie.Need-returns-3 Inv-walk μ-walk
+returns-3 c = let w = c .before .before .before in subst (Stretched (room-at w) (start-at w .args .budget) (whole w) (job-at w) (joints-at w) (w .walk .rows)) (c .before .ended3 .given .1) (stretched w)
 
-add-at-2 : tie.Need-add-at-2 Inv-loop μ-loop Inv-walk μ-walk
-add-at-2 c = let f = c .before .before .before in omega (arith, fits-job f, start-at (w f) .good .0)
+same-length-10 : tie.Need-same-length-10 Inv-walk μ-walk
+same-length-10 c = given-kept (w (c .before .before))
 
-loop-less : tie.Need-loop-less Inv-loop μ-loop Inv-walk μ-walk
-loop-less c = omega (arith, c .before .before .before .before .before .loop-test .taken)
+same-length-11 : tie.Need-same-length-11 Inv-walk μ-walk
+same-length-11 c = sums-kept (w (c .before .before))
 
-loop-again : tie.Need-loop-again Inv-loop μ-loop Inv-walk μ-walk
-loop-again c =
-    let v = c .before .before in
-    let f = v .before in
-    subst (λ (n : ℕ). Scanning (job-at (w f)) (byteAt (job-at (w f)) (w f .walk .offset)) (w f .walk .offset + 1) (turn f .loop .place + 1) (turn f .loop .at + n)) (sym (width-is f))
-    (scans-on (job-at (w f)) (byteAt (job-at (w f)) (w f .walk .offset)) (w f .walk .offset + 1) (turn f .loop .place) (turn f .loop .at) (turn f .loop .inv) (forms-left (f .before .before)) (v .number .result) (value-is v)
-    (sym (tested (c .before)) ∙ not-false (c .before .in-range .result) (c .if8 .left)))
+same-length-12 : tie.Need-same-length-12 Inv-walk μ-walk
+same-length-12 c = rows-kept (w (c .before .before))
 
-relation-names-requires : tie.Need-relation-names-requires Inv-loop μ-loop Inv-walk μ-walk
-relation-names-requires c κs = tt
-
-absent-requires : tie.Need-absent-requires Inv-loop μ-loop Inv-walk μ-walk
-absent-requires c κs = w4 (c .before) .walk .inv .given
-
-add-if11 : tie.Need-add-if11 Inv-loop μ-loop Inv-walk μ-walk
-add-if11 c = let w = w6 (c .before) in omega (arith, reached (r4 (else4 (c .before)) .before) .inside, start-at w .good .0)
-
-add-t54 : tie.Need-add-t54 Inv-loop μ-loop Inv-walk μ-walk
-add-t54 c = omega (arith, c .if11 .taken, start-at (w6 (c .before .before)) .good .0)
-
-next-requires : tie.Need-next-requires Inv-loop μ-loop Inv-walk μ-walk
-next-requires c κs = let s = c .before in record { state = w6 s .walk .inv .state; in-range = in-range-4 (else4 s) }
-
-hold-joint-requires : tie.Need-hold-joint-requires Inv-loop μ-loop Inv-walk μ-walk
-hold-joint-requires c κs = let w = w6 (else7 (c .before .before) .before) in (w .walk .inv .given, w .walk .inv .sums)
-
-emit-requires : tie.Need-emit-requires Inv-loop μ-loop Inv-walk μ-walk
-emit-requires c κs =
-    let h = c .before .before .before .before .before .before in
-    let w = w7 h in (
-      start-at w .pre .0,
-      (
-        record {
-          state = sound-state h;
-          joints = subst (λ (room : Bool). SoundSums room (h .hold-joint .last .1 .0)) (sym (room-kept w)) (sound-sums h);
-          in-range = in-range-4 (else4 (six h));
-        },
-        (omega (arith, w .walk .inv .written, w .walk .inv .count), omega (arith, reached (r7 h .before) .inside, start-at w .good .0)),
-      ),
-    )
-
-add-offset-3 : tie.Need-add-offset-3 Inv-loop μ-loop Inv-walk μ-walk
-add-offset-3 c = let h = at-emit (c .before) in omega (arith, reached (r7 h .before) .inside, start-at (w7 h) .good .0)
-
-operands-width-requires : tie.Need-operands-width-requires Inv-loop μ-loop Inv-walk μ-walk
-operands-width-requires c κs = tt
-
-add-offset-4 : tie.Need-add-offset-4 Inv-loop μ-loop Inv-walk μ-walk
-add-offset-4 c = let h = at-emit (emitted c) in omega (arith, c .operands-width .ensures, reached (r7 h .before) .early .whole, start-at (w7 h) .good .0)
-
-add-count-2 : tie.Need-add-count-2 Inv-loop μ-loop Inv-walk μ-walk
-add-count-2 c = omega (arith, w7 (at-emit (emitted c)) .walk .inv .count)
-
-sub-left-2 : tie.Need-sub-left-2 Inv-loop μ-loop Inv-walk μ-walk
-sub-left-2 c = reached (r7 (at-emit (emitted c)) .before) .some-left
-
-walk-less-2 : tie.Need-walk-less-2 Inv-loop μ-loop Inv-walk μ-walk
-walk-less-2 c = omega (arith, reached (r7 (at-emit (emitted c)) .before) .some-left)
-
-walk-again-2 : tie.Need-walk-again-2 Inv-loop μ-loop Inv-walk μ-walk
-walk-again-2 c =
-    let e = emitted c in
-    let h = at-emit e in
-    let n = next7 h in
-    let s = six h in
-    let w = w7 h in
-    let r = r7 h in
-    on (room-at w) (whole w) (job-at w) (lent-at w) (start-at w .args .rows .now) (joints-at w) (w .walk .rows) (place-at w) (w .walk .left) (w .walk .inv) (reached (r .before))
-    (r .read .result) (r .read .ensures) (in-range-4 (else4 s)) (present s) (n .before .if10 .left)
-    (h .hold-joint .last .0) (h .hold-joint .last .1 .0) (e .emit .last .0) (w .walk .offset + 1 + c .operands-width .result) (e .emit .result) (n .next .result)
-    (h .hold-joint .ensures .0) (h .hold-joint .ensures .1) (n .next .ensures) (e .emit .ensures .1) (e .emit .ensures .0) (ap (λ (k : ℕ). w .walk .offset + 1 + k) (c .operands-width .ensures))
-
-same-length : tie.Need-same-length Inv-loop μ-loop Inv-walk μ-walk
-same-length c = (c .before) .walk .inv .given-kept
-
-same-length-2 : tie.Need-same-length-2 Inv-loop μ-loop Inv-walk μ-walk
-same-length-2 c = (c .before) .walk .inv .sums-kept
-
-same-length-3 : tie.Need-same-length-3 Inv-loop μ-loop Inv-walk μ-walk
-same-length-3 c = (c .before) .walk .inv .rows-kept
-
-returns : tie.Need-returns Inv-loop μ-loop Inv-walk μ-walk
-returns c =
-    let w = c .before in
-    pauses (room-at w) (whole w) (job-at w) (lent-at w) (start-at w .args .rows .now) (joints-at w) (w .walk .rows) (place-at w) (w .walk .left) (w .walk .inv) (c .if1 .taken)
-
-same-length-4 : tie.Need-same-length-4 Inv-loop μ-loop Inv-walk μ-walk
-same-length-4 c = (c .before .before) .walk .inv .given-kept
-
-same-length-5 : tie.Need-same-length-5 Inv-loop μ-loop Inv-walk μ-walk
-same-length-5 c = (c .before .before) .walk .inv .sums-kept
-
-same-length-6 : tie.Need-same-length-6 Inv-loop μ-loop Inv-walk μ-walk
-same-length-6 c = (c .before .before) .walk .inv .rows-kept
-
-returns-2 : tie.Need-returns-2 Inv-loop μ-loop Inv-walk μ-walk
-returns-2 c =
-    let w = c .before .before in
-    ends-short (room-at w) (whole w) (job-at w) (lent-at w) (start-at w .args .rows .now) (joints-at w) (w .walk .rows) (place-at w) (w .walk .left) (w .walk .inv) (positive (w .walk .left) (c .before .if1 .left)) (c .if2 .taken)
-
-same-length-7 : tie.Need-same-length-7 Inv-loop μ-loop Inv-walk μ-walk
-same-length-7 c = c .before .before .before .before .before .before .walk .inv .given-kept
-
-same-length-8 : tie.Need-same-length-8 Inv-loop μ-loop Inv-walk μ-walk
-same-length-8 c = c .before .before .before .before .before .before .walk .inv .sums-kept
-
-same-length-9 : tie.Need-same-length-9 Inv-loop μ-loop Inv-walk μ-walk
-same-length-9 c = c .before .before .before .before .before .before .walk .inv .rows-kept
-
-returns-3 : tie.Need-returns-3 Inv-loop μ-loop Inv-walk μ-walk
-returns-3 c =
-    let i = c .before .before .before .before in
-    let w = i .before .before in
-    block-refused-early (room-at w) (whole w) (job-at w) (lent-at w) (start-at w .args .rows .now) (joints-at w) (w .walk .rows) (place-at w) (w .walk .left) (w .walk .inv) (positive (w .walk .left) (i .before .if1 .left)) (i .if2 .left)
-    (is-block (byteAt (job-at w) (w .walk .offset)) (c .before .before .if3 .taken)) (c .before .block-fault .result) (c .before .block-fault .ensures) (c .if4 .taken)
-
-same-length-10 : tie.Need-same-length-10 Inv-loop μ-loop Inv-walk μ-walk
-same-length-10 c = block-head (c .before .before .before) .walk .inv .given-kept
-
-same-length-11 : tie.Need-same-length-11 Inv-loop μ-loop Inv-walk μ-walk
-same-length-11 c = block-head (c .before .before .before) .walk .inv .sums-kept
-
-same-length-12 : tie.Need-same-length-12 Inv-loop μ-loop Inv-walk μ-walk
-same-length-12 c = block-head (c .before .before .before) .walk .inv .rows-kept
-
-returns-4 : tie.Need-returns-4 Inv-loop μ-loop Inv-walk μ-walk
+returns-4 : tie.Need-returns-4 Inv-walk μ-walk
 returns-4 c =
-    let e = c .before .before .before in
-    let w = block-head e in
-    set-refused (room-at w) (whole w) (job-at w) (lent-at w) (start-at w .args .rows .now) (joints-at w) (w .walk .rows) (place-at w) (w .walk .left) (w .walk .inv) (block-reached e)
-    (c .before .set-named .result) (c .before .set-named .ensures) (c .if5 .taken)
+    let n = c .before .before in
+    let h = w n in
+    block-refused-early (room-at h) (whole h) (job-at h) (joints-at h) (h .walk .rows) (joints-at h) (h .walk .rows) (place n) (left n) (standing n) (before-block n .some-left) (before-block n .inside) (before-block n .block)
+    (c .before .block-fault .result) (c .before .block-fault .ensures) (c .if1 .taken)
 
-same-length-13 : tie.Need-same-length-13 Inv-loop μ-loop Inv-walk μ-walk
-same-length-13 c = head5 c .walk .inv .given-kept
+same-length-13 : tie.Need-same-length-13 Inv-walk μ-walk
+same-length-13 c = given-kept (w (s (c .before .before .before)))
 
-same-length-14 : tie.Need-same-length-14 Inv-loop μ-loop Inv-walk μ-walk
-same-length-14 c = head5 c .walk .inv .sums-kept
+same-length-14 : tie.Need-same-length-14 Inv-walk μ-walk
+same-length-14 c = sums-kept (w (s (c .before .before .before)))
 
-same-length-15 : tie.Need-same-length-15 Inv-loop μ-loop Inv-walk μ-walk
-same-length-15 c = head5 c .walk .inv .rows-kept
+same-length-15 : tie.Need-same-length-15 Inv-walk μ-walk
+same-length-15 c = rows-kept (w (s (c .before .before .before)))
 
-returns-5 : tie.Need-returns-5 Inv-loop μ-loop Inv-walk μ-walk
+returns-5 : tie.Need-returns-5 Inv-walk μ-walk
 returns-5 c =
-    let w = head5 c in
-    let i = c .before .before .before .before in
-    refused-early (room-at w) (whole w) (job-at w) (lent-at w) (start-at w .args .rows .now) (joints-at w) (w .walk .rows) (place-at w) (w .walk .left) (w .walk .inv) (positive (w .walk .left) (i .before .if1 .left)) (i .if2 .left)
-    (other-byte (byteAt (job-at w) (w .walk .offset)) (c .before .before .if3 .left)) (c .before .early-fault .result) (c .before .early-fault .ensures) (c .if6 .taken)
-
-same-length-16 : tie.Need-same-length-16 Inv-loop μ-loop Inv-walk μ-walk
-same-length-16 c = (loop-head (turn (c .before .before .before))) .walk .inv .given-kept
-
-same-length-17 : tie.Need-same-length-17 Inv-loop μ-loop Inv-walk μ-walk
-same-length-17 c = (loop-head (turn (c .before .before .before))) .walk .inv .sums-kept
-
-same-length-18 : tie.Need-same-length-18 Inv-loop μ-loop Inv-walk μ-walk
-same-length-18 c = (loop-head (turn (c .before .before .before))) .walk .inv .rows-kept
-
-returns-6 : tie.Need-returns-6 Inv-loop μ-loop Inv-walk μ-walk
-returns-6 c =
-    let v = c .before .before in
-    let f = v .before in
-    let l = turn f in
-    outside l (l .loop .place)
-    (found (job-at (w f)) (byteAt (job-at (w f)) (w f .walk .offset)) (w f .walk .offset + 1) (l .loop .place) (l .loop .at) (l .loop .inv) (forms-left (f .before .before)) (v .number .result) (value-is v)
-    (commandAt (job-at (w f)) (w f .walk .offset)) (command-scanned (job-at (w f)) (w f .walk .offset) (bytes-at (w f)) (reached (loop3 l) .early .known-byte))
-    (sym (tested (c .before)) ∙ not-true (c .before .in-range .result) (c .if8 .taken)))
-
-same-length-19 : tie.Need-same-length-19 Inv-loop μ-loop Inv-walk μ-walk
-same-length-19 c = (loop-head (c .before .before)) .walk .inv .given-kept
-
-same-length-20 : tie.Need-same-length-20 Inv-loop μ-loop Inv-walk μ-walk
-same-length-20 c = (loop-head (c .before .before)) .walk .inv .sums-kept
-
-same-length-21 : tie.Need-same-length-21 Inv-loop μ-loop Inv-walk μ-walk
-same-length-21 c = (loop-head (c .before .before)) .walk .inv .rows-kept
-
-returns-7 : tie.Need-returns-7 Inv-loop μ-loop Inv-walk μ-walk
-returns-7 c =
-    let l = c .before .before in
-    let w = loop-head l in
-    outside l (c .relation-names .result)
-    (scanned (job-at w) (byteAt (job-at w) (w .walk .offset)) (w .walk .offset + 1) (l .loop .place) (l .loop .at) (l .loop .inv) (omega (arith, c .before .loop-test .left, l .before .operand-count .ensures))
-    (commandAt (job-at w) (w .walk .offset)) (command-scanned (job-at w) (w .walk .offset) (bytes-at w) (reached (loop3 l) .early .known-byte))
-    ∙ sym (c .relation-names .ensures))
-
-same-length-22 : tie.Need-same-length-22 Inv-loop μ-loop Inv-walk μ-walk
-same-length-22 c = (w4 (c .before .before .before)) .walk .inv .given-kept
-
-same-length-23 : tie.Need-same-length-23 Inv-loop μ-loop Inv-walk μ-walk
-same-length-23 c = (w4 (c .before .before .before)) .walk .inv .sums-kept
-
-same-length-24 : tie.Need-same-length-24 Inv-loop μ-loop Inv-walk μ-walk
-same-length-24 c = (w4 (c .before .before .before)) .walk .inv .rows-kept
-
-returns-8 : tie.Need-returns-8 Inv-loop μ-loop Inv-walk μ-walk
-returns-8 c =
-    let e = c .before .before .before in
-    let w = w4 e in
-    absence (room-at w) (whole w) (job-at w) (lent-at w) (start-at w .args .rows .now) (joints-at w) (w .walk .rows) (place-at w) (w .walk .left) (w .walk .inv) (reached (r4 e .before))
-    (r4 e .read .result) (r4 e .read .ensures) (in-range-4 e) (sym (c .before .absent .ensures) ∙ c .if9 .taken)
-
-same-length-25 : tie.Need-same-length-25 Inv-loop μ-loop Inv-walk μ-walk
-same-length-25 c = (w6 (c .before .before)) .walk .inv .given-kept
-
-same-length-26 : tie.Need-same-length-26 Inv-loop μ-loop Inv-walk μ-walk
-same-length-26 c = (w6 (c .before .before)) .walk .inv .sums-kept
-
-same-length-27 : tie.Need-same-length-27 Inv-loop μ-loop Inv-walk μ-walk
-same-length-27 c = (w6 (c .before .before)) .walk .inv .rows-kept
-
-returns-9 : tie.Need-returns-9 Inv-loop μ-loop Inv-walk μ-walk
-returns-9 c =
-    let s = c .before .before in
-    let e = else4 s in
-    let w = w4 e in
-    bytes-after (room-at w) (whole w) (job-at w) (lent-at w) (start-at w .args .rows .now) (joints-at w) (w .walk .rows) (place-at w) (w .walk .left) (w .walk .inv) (reached (r4 e .before))
-    (r4 e .read .result) (r4 e .read .ensures) (in-range-4 e) (present s) (c .before .if10 .taken) (c .if11 .taken)
-
-same-length-28 : tie.Need-same-length-28 Inv-loop μ-loop Inv-walk μ-walk
-same-length-28 c = (w6 (c .before .before)) .walk .inv .given-kept
-
-same-length-29 : tie.Need-same-length-29 Inv-loop μ-loop Inv-walk μ-walk
-same-length-29 c = (w6 (c .before .before)) .walk .inv .sums-kept
-
-same-length-30 : tie.Need-same-length-30 Inv-loop μ-loop Inv-walk μ-walk
-same-length-30 c = (w6 (c .before .before)) .walk .inv .rows-kept
-
-returns-10 : tie.Need-returns-10 Inv-loop μ-loop Inv-walk μ-walk
-returns-10 c =
-    let s = c .before .before in
-    let e = else4 s in
-    let w = w4 e in
-    done (room-at w) (whole w) (job-at w) (lent-at w) (start-at w .args .rows .now) (joints-at w) (w .walk .rows) (place-at w) (w .walk .left) (w .walk .inv) (reached (r4 e .before))
-    (r4 e .read .result) (r4 e .read .ensures) (in-range-4 e) (present s) (c .before .if10 .taken) (c .if11 .left)
+    let o = c .before .before .before in
+    let n = s o in
+    let h = w n in
+    set-refused (room-at h) (whole h) (job-at h) (joints-at h) (h .walk .rows) (joints-at h) (h .walk .rows) (place n) (left n) (standing n) (reached o)
+    (c .before .set-named .result) (c .before .set-named .ensures) (c .if2 .taken)
 
 pub walk-spec : {M : Type 1} → statement M
 walk-spec =
     tie.close
     (tie.spec
-    Inv-loop
-    μ-loop
     Inv-walk
     μ-walk
+    walk-stretch-requires
     walk-holds
-    shared-slice-read-byte
+    enum-known-ended
+    enum-known-ended-2
+    enum-known-ended-3
+    enum-known-ended-4
     block-fault-requires
     add-sets
     shared-slice-read-sets
@@ -613,43 +344,15 @@ walk-spec =
     set-named-requires
     add-emit-sets
     emit-sets-requires
-    add-offset
-    mul-offset
-    add-offset-2
     cast-weight
-    add-count
-    sub-left
+    add-t36
+    mul-t41
+    add-t42
+    add-walk-stretch
+    sub-walk-stretch
+    walk-stretch-requires-2
     walk-less
     walk-again
-    early-fault-requires
-    read-requires
-    command-in-range-requires
-    operand-count-requires
-    add-at
-    loop-holds
-    form-of-requires
-    form-width-requires
-    number-requires
-    in-range-requires
-    cast-t46
-    add-place
-    add-at-2
-    loop-less
-    loop-again
-    relation-names-requires
-    absent-requires
-    add-if11
-    add-t54
-    next-requires
-    hold-joint-requires
-    emit-requires
-    add-offset-3
-    operands-width-requires
-    add-offset-4
-    add-count-2
-    sub-left-2
-    walk-less-2
-    walk-again-2
     same-length
     same-length-2
     same-length-3
@@ -669,24 +372,4 @@ walk-spec =
     same-length-13
     same-length-14
     same-length-15
-    returns-5
-    same-length-16
-    same-length-17
-    same-length-18
-    returns-6
-    same-length-19
-    same-length-20
-    same-length-21
-    returns-7
-    same-length-22
-    same-length-23
-    same-length-24
-    returns-8
-    same-length-25
-    same-length-26
-    same-length-27
-    returns-9
-    same-length-28
-    same-length-29
-    same-length-30
-    returns-10)
+    returns-5)
