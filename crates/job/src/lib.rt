@@ -157,19 +157,19 @@ fn walk_stretch(
             break 'walk Stretch::Refused(1, offset, 0);
         }
         let byte = job[offset];
+        if byte == blocks::BLOCK {
+            break 'walk Stretch::Block(
+                Place {
+                    offset,
+                    count,
+                    rows: written,
+                    state,
+                },
+                left,
+            );
+        }
         let early = early_fault(job.len(), offset, byte, count, state.given);
         if early != 0 {
-            if byte == blocks::BLOCK {
-                break 'walk Stretch::Block(
-                    Place {
-                        offset,
-                        count,
-                        rows: written,
-                        state,
-                    },
-                    left,
-                );
-            }
             break 'walk Stretch::Refused(early, offset, 0);
         }
         let command = format::read(job, offset, byte);

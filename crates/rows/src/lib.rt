@@ -235,7 +235,9 @@ fn write_sets(
     let mut next = n;
     while 0 < left {
         let storey = format::storey_at(job, start);
-        let row = walls::storey_row(wall, storey, table);
+        // As in walls::storey_row; through it each storey would be a call that hands its row over in memory.
+        let k = cubes::least_root(table, storey.inertia, storey.baseInertia);
+        let row = walls::storey_row_at(wall, storey, k);
         next = put_row(rows, next, start, 7, row);
         start += blocks::SET;
         left -= 1;

@@ -5,6 +5,7 @@ ghost use Prim.Native.Nat.{_*_, _^_, _≤_, _<_};
 ghost use Rattle.exact.specs.Quotient.{up};
 ghost use Rattle.coefficient.specs.Coefficient.{fraction, ProductFits};
 ghost use Rattle.cubes.specs.Cube.{LentCubes};
+ghost use Rattle.cubes.specs.Root.{leastRoot};
 ghost use Rattle.walls.specs.Base.{designMoment, baseRowFrom, WallBaseRange};
 ghost use Rattle.walls.specs.Storey.{designShear, storeyRowFrom, StoreyRange};
 ghost use Rattle.walls.specs.Running.{wallOf, WallRange};
@@ -107,15 +108,14 @@ pub fn base_row(wall: Wall, base: WallBase) -> Row
     )
 }
 
-// The row of a storey of the wall with these running values; the table of cubes may be lent.
-pub fn storey_row(wall: Wall, storey: Storey, table: &[u64]) -> Row
-    requires table { ⌜ LentCubes (now table) ⌝ }
+// The row of a storey of the wall with these running values and its k.
+pub fn storey_row_at(wall: Wall, storey: Storey, k: u32) -> Row
     requires wall { ⌜ WallRange wall ⌝ }
     requires storey { ⌜ StoreyRange storey ⌝ }
+    requires root { ⌜ k ≡ leastRoot (storey .inertia) (storey .baseInertia) ⌝ }
     ensures { λ r. ⌜ r ≡ storeyRowFrom (fraction (wall .coefficient)) (wall .shear) (wall .resistance) storey ⌝ }
 {
     let a = wall.coefficient;
-    let k = cubes::least_root(table, storey.inertia, storey.baseInertia);
     let v = design_shear(a, k as u64, storey.shear, wall.shear);
     let m = design_moment(a, k as u64, storey.moment, wall.resistance as u64);
     let failed = (storey.strength as u64) < v;
@@ -129,4 +129,15 @@ pub fn storey_row(wall: Wall, storey: Storey, table: &[u64]) -> Row
         k as u64,
         verdict,
     )
+}
+
+// The row of a storey of the wall with these running values; the table of cubes may be lent.
+pub fn storey_row(wall: Wall, storey: Storey, table: &[u64]) -> Row
+    requires table { ⌜ LentCubes (now table) ⌝ }
+    requires wall { ⌜ WallRange wall ⌝ }
+    requires storey { ⌜ StoreyRange storey ⌝ }
+    ensures { λ r. ⌜ r ≡ storeyRowFrom (fraction (wall .coefficient)) (wall .shear) (wall .resistance) storey ⌝ }
+{
+    let k = cubes::least_root(table, storey.inertia, storey.baseInertia);
+    storey_row_at(wall, storey, k)
 }

@@ -246,9 +246,9 @@ walk-again c =
     let g = t .walk-stretch2 in
     let rows = m .before .emit-sets .last .0 in
     let after =
-        subst
-        (λ (room : Bool). Stretched room (left n - 1) (walkFrom room (left n - 1) (job-at h) (next m) (joints-at h) rows) (job-at h) (record { given = g .last .1 .1 .1 .0; sums = g .last .1 .1 .1 .1 .0 }) (g .last .1 .1 .1 .1 .1 .1 .0) (g .result .ended))
-        (sym (room-kept m)) (g .ensures) in
+    subst
+    (λ (room : Bool). Stretched room (left n - 1) (walkFrom room (left n - 1) (job-at h) (next m) (joints-at h) rows) (job-at h) (record { given = g .last .1 .1 .1 .0; sums = g .last .1 .1 .1 .1 .0 }) (g .last .1 .1 .1 .1 .1 .1 .0) (g .result .ended))
+    (sym (room-kept m)) (g .ensures) in
     onward (room-at h) (start-at h .args .budget) (job-at h) (record { given = f .last .1 .1 .1 .0; sums = f .last .1 .1 .1 .1 .0 }) (f .last .1 .1 .1 .1 .1 .1 .0) (f .result .ended)
     (joints-at h) (h .walk .rows) (h .walk .end .ended) (h .walk .inv) (place n) (left n) (n .before .before .ended4 .given .1) (next m) (m .before .emit-sets .last .0)
     (sym (before-block n .same) ∙ passed m .same)

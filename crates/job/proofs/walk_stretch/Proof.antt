@@ -11,7 +11,7 @@ use Rattle.layout.specs.declared.Form.{Form}
 use Rattle.layout.specs.declared.Form.the-variants.{Id}
 use Rattle.layout.specs.Number.{number}
 use Rattle.layout.specs.Forms.{width, formInRange}
-use Rattle.layout.specs.Layouts.{known, formsOf}
+use Rattle.layout.specs.Layouts.{formsOf}
 use Rattle.layout.specs.Operands.{byteAt}
 use Rattle.layout.proofs.Numbers.{Bytes}
 use Rattle.layout.proofs.OperandsRead.{width-is as form-width-is}
@@ -24,7 +24,6 @@ use Rattle.context.proofs.Laws.{next-sound, sums-sound}
 use Rattle.job.specs.declared.Place.{Place}
 use Rattle.job.specs.declared.Walked.the-variants.{Refused}
 use Rattle.job.specs.Walking.{walkFrom, Final}
-use Rattle.layout.proofs.KnownBytes.{known-most}
 use Rattle.job.proofs.Faultless.{other-byte}
 use Rattle.job.proofs.Steps.{stop, early-none}
 use Rattle.job.proofs.Stands.{Stands}
@@ -82,33 +81,29 @@ bytes-at w k = w .before .before .before .before .before .shared-slice-known .gi
 room-kept : (w : tie.At-walk Inv-loop μ-loop Inv-walk μ-walk) → roomFor (length (w .walk .rows)) ≡ room-at w
 room-kept w = ap roomFor (w .walk .inv .0 .rows-kept)
 
--- a command of the table is no block
-known-single : (byte : ℕ) → known byte ≡ true → isBlock byte ≡ false
-known-single byte k = other-byte byte (λ e. apart byte e (known-most byte k))
-  where
-    apart : (b : ℕ) → b ≡ 11 → b ≤ 10 → ⊥
-    apart b e l = omega arith
-
 positive : (n : ℕ) → (n ≡ 0 → ⊥) → 0 < n
 positive n h = omega arith
 
 -- ---- a command that may be read
 
-abbrev head3 : tie.Else3 Inv-loop μ-loop Inv-walk μ-walk → tie.At-walk Inv-loop μ-loop Inv-walk μ-walk
-head3 c = c .before .before .before .before .before
+abbrev head3 : tie.Else4 Inv-loop μ-loop Inv-walk μ-walk → tie.At-walk Inv-loop μ-loop Inv-walk μ-walk
+head3 c = c .before .before .before .before .before .before
 
-reached : (c : tie.Else3 Inv-loop μ-loop Inv-walk μ-walk) → let w = head3 c in Reached (job-at w) (place-at w) (w .walk .left)
+reached : (c : tie.Else4 Inv-loop μ-loop Inv-walk μ-walk) → let w = head3 c in Reached (job-at w) (place-at w) (w .walk .left)
 reached c =
     let w = head3 c in
     record {
-      some-left = positive (w .walk .left) (c .before .before .before .before .if1 .left);
-      inside = c .before .before .before .if2 .left;
-      single = known-single (byteAt (job-at w) (w .walk .offset)) (early-none (job-at w) (place-at w) (sym (c .before .early-fault .ensures) ∙ c .if3 .left) .known-byte);
-      early = early-none (job-at w) (place-at w) (sym (c .before .early-fault .ensures) ∙ c .if3 .left);
+      some-left = positive (w .walk .left) (c .before .before .before .before .before .if1 .left);
+      inside = c .before .before .before .before .if2 .left;
+      single = other-byte (byteAt (job-at w) (w .walk .offset)) (c .before .before .if3 .left);
+      early = early-none (job-at w) (place-at w) (sym (c .before .early-fault .ensures) ∙ c .if4 .left);
     }
 
-abbrev faulty-head : tie.Then3 Inv-loop μ-loop Inv-walk μ-walk → tie.At-walk Inv-loop μ-loop Inv-walk μ-walk
-faulty-head c = c .before .before .before .before .before
+abbrev faulty-head : tie.Then4 Inv-loop μ-loop Inv-walk μ-walk → tie.At-walk Inv-loop μ-loop Inv-walk μ-walk
+faulty-head c = c .before .before .before .before .before .before
+
+abbrev block-head : tie.Then3 Inv-loop μ-loop Inv-walk μ-walk → tie.At-walk Inv-loop μ-loop Inv-walk μ-walk
+block-head c = c .before .before .before .before
 
 is-block : (byte : ℕ) → byte ≡ 11 → isBlock byte ≡ true
 is-block byte e = rw e
@@ -118,7 +113,7 @@ head4 c = head3 (c .before .before)
 
 -- ---- the inner loop
 
-abbrev loop3 : tie.At-loop Inv-loop μ-loop Inv-walk μ-walk → tie.Else3 Inv-loop μ-loop Inv-walk μ-walk
+abbrev loop3 : tie.At-loop Inv-loop μ-loop Inv-walk μ-walk → tie.Else4 Inv-loop μ-loop Inv-walk μ-walk
 loop3 l = l .before .before .before .before .before
 
 abbrev loop-head : tie.At-loop Inv-loop μ-loop Inv-walk μ-walk → tie.At-walk Inv-loop μ-loop Inv-walk μ-walk
@@ -223,8 +218,7 @@ module _ (c : tie.After-hold-joint Inv-loop μ-loop Inv-walk μ-walk) where
 walk-holds : tie.Need-walk-holds Inv-loop μ-loop Inv-walk μ-walk
 walk-holds c =
     let s = c .before .before .before .before .before in
-    let a = s .pre .1 in
-    (
+    let a = s .pre .1 in (
       record { same = refl; state = a .state; given = a .given; sums = a .sums; offset = a .offset; count = a .count; written = a .rows; given-kept = refl; sums-kept = refl; rows-kept = refl },
       omega arith,
     )
@@ -233,7 +227,7 @@ shared-slice-read-byte : tie.Need-shared-slice-read-byte Inv-loop μ-loop Inv-wa
 shared-slice-read-byte c = c .before .if2 .left
 
 early-fault-requires : tie.Need-early-fault-requires Inv-loop μ-loop Inv-walk μ-walk
-early-fault-requires c κs = c .before .if2 .left
+early-fault-requires c κs = c .before .before .if2 .left
 
 read-requires : tie.Need-read-requires Inv-loop μ-loop Inv-walk μ-walk
 read-requires c κs = (refl, reached c .early .whole)
@@ -262,8 +256,8 @@ number-requires c κs = record { inside = fits-job c; bytes = rw (width-is c) (f
 in-range-requires : tie.Need-in-range-requires Inv-loop μ-loop Inv-walk μ-walk
 in-range-requires c κs = tt
 
-cast-t37 : tie.Need-cast-t37 Inv-loop μ-loop Inv-walk μ-walk
-cast-t37 c = omega (arith, turn-place (c .before))
+cast-t36 : tie.Need-cast-t36 Inv-loop μ-loop Inv-walk μ-walk
+cast-t36 c = omega (arith, turn-place (c .before))
 
 add-place : tie.Need-add-place Inv-loop μ-loop Inv-walk μ-walk
 add-place c = omega (arith, turn-place (c .before))
@@ -291,8 +285,8 @@ absent-requires c κs = w4 (c .before) .walk .inv .0 .given
 add-if9 : tie.Need-add-if9 Inv-loop μ-loop Inv-walk μ-walk
 add-if9 c = let w = w6 (c .before) in omega (arith, reached (r4 (else4 (c .before)) .before) .inside, start-at w .good .0)
 
-add-t45 : tie.Need-add-t45 Inv-loop μ-loop Inv-walk μ-walk
-add-t45 c = omega (arith, c .if9 .taken, start-at (w6 (c .before .before)) .good .0)
+add-t44 : tie.Need-add-t44 Inv-loop μ-loop Inv-walk μ-walk
+add-t44 c = omega (arith, c .if9 .taken, start-at (w6 (c .before .before)) .good .0)
 
 next-requires : tie.Need-next-requires Inv-loop μ-loop Inv-walk μ-walk
 next-requires c κs = let s = c .before in record { state = w6 s .walk .inv .0 .state; in-range = in-range-4 (else4 s) }
@@ -340,11 +334,13 @@ walk-again c =
     let n = next7 h in
     let s = six h in
     let w = w7 h in
-    let r = r7 h in
-    (on (room-at w) (whole w) (job-at w) (lent-at w) (start-at w .args .rows .now) (joints-at w) (w .walk .rows) (place-at w) (w .walk .left) (w .walk .inv .0) (reached (r .before))
-    (r .read .result) (r .read .ensures) (in-range-4 (else4 s)) (present s) (n .before .if8 .left)
-    (h .hold-joint .last .0) (h .hold-joint .last .1 .0) (e .emit .last .0) (w .walk .offset + 1 + c .operands-width .result) (e .emit .result) (n .next .result)
-    (h .hold-joint .ensures .0) (h .hold-joint .ensures .1) (n .next .ensures) (e .emit .ensures .1) (e .emit .ensures .0) (ap (λ (k : ℕ). w .walk .offset + 1 + k) (c .operands-width .ensures)), omega (arith, w .walk .inv .1))
+    let r = r7 h in (
+      on (room-at w) (whole w) (job-at w) (lent-at w) (start-at w .args .rows .now) (joints-at w) (w .walk .rows) (place-at w) (w .walk .left) (w .walk .inv .0) (reached (r .before))
+          (r .read .result) (r .read .ensures) (in-range-4 (else4 s)) (present s) (n .before .if8 .left)
+          (h .hold-joint .last .0) (h .hold-joint .last .1 .0) (e .emit .last .0) (w .walk .offset + 1 + c .operands-width .result) (e .emit .result) (n .next .result)
+          (h .hold-joint .ensures .0) (h .hold-joint .ensures .1) (n .next .ensures) (e .emit .ensures .1) (e .emit .ensures .0) (ap (λ (k : ℕ). w .walk .offset + 1 + k) (c .operands-width .ensures)),
+      omega (arith, w .walk .inv .1),
+    )
 
 same-length : tie.Need-same-length Inv-loop μ-loop Inv-walk μ-walk
 same-length c = (c .before) .walk .inv .0 .given-kept
@@ -375,22 +371,22 @@ returns-2 c =
     ends-short (room-at w) (whole w) (job-at w) (lent-at w) (start-at w .args .rows .now) (joints-at w) (w .walk .rows) (place-at w) (w .walk .left) (w .walk .inv .0) (positive (w .walk .left) (c .before .if1 .left)) (c .if2 .taken)
 
 same-length-7 : tie.Need-same-length-7 Inv-loop μ-loop Inv-walk μ-walk
-same-length-7 c = faulty-head (c .before) .walk .inv .0 .given-kept
+same-length-7 c = block-head c .walk .inv .0 .given-kept
 
 same-length-8 : tie.Need-same-length-8 Inv-loop μ-loop Inv-walk μ-walk
-same-length-8 c = faulty-head (c .before) .walk .inv .0 .sums-kept
+same-length-8 c = block-head c .walk .inv .0 .sums-kept
 
 same-length-9 : tie.Need-same-length-9 Inv-loop μ-loop Inv-walk μ-walk
-same-length-9 c = faulty-head (c .before) .walk .inv .0 .rows-kept
+same-length-9 c = block-head c .walk .inv .0 .rows-kept
 
 returns-3 : tie.Need-returns-3 Inv-loop μ-loop Inv-walk μ-walk
 returns-3 c =
-    let w = faulty-head (c .before) in
-    let i = c .before .before .before .before in
+    let w = block-head c in
+    let i = c .before .before in
     let s = w .walk .inv .0 in
     record {
       same = s .same;
-      block = is-block (byteAt (job-at w) (w .walk .offset)) (c .if4 .taken);
+      block = is-block (byteAt (job-at w) (w .walk .offset)) (c .if3 .taken);
       inside = i .if2 .left;
       some-left = positive (w .walk .left) (i .before .if1 .left);
       fewer = w .walk .inv .1;
@@ -398,21 +394,21 @@ returns-3 c =
     }
 
 same-length-10 : tie.Need-same-length-10 Inv-loop μ-loop Inv-walk μ-walk
-same-length-10 c = faulty-head (c .before) .walk .inv .0 .given-kept
+same-length-10 c = faulty-head c .walk .inv .0 .given-kept
 
 same-length-11 : tie.Need-same-length-11 Inv-loop μ-loop Inv-walk μ-walk
-same-length-11 c = faulty-head (c .before) .walk .inv .0 .sums-kept
+same-length-11 c = faulty-head c .walk .inv .0 .sums-kept
 
 same-length-12 : tie.Need-same-length-12 Inv-loop μ-loop Inv-walk μ-walk
-same-length-12 c = faulty-head (c .before) .walk .inv .0 .rows-kept
+same-length-12 c = faulty-head c .walk .inv .0 .rows-kept
 
 returns-4 : tie.Need-returns-4 Inv-loop μ-loop Inv-walk μ-walk
 returns-4 c =
-    let w = faulty-head (c .before) in
-    let f = c .before .before in
-    let i = f .before .before in
+    let w = faulty-head c in
+    let f = c .before in
+    let i = f .before .before .before in
     refused-early (room-at w) (whole w) (job-at w) (lent-at w) (start-at w .args .rows .now) (joints-at w) (w .walk .rows) (place-at w) (w .walk .left) (w .walk .inv .0) (positive (w .walk .left) (i .before .if1 .left)) (i .if2 .left)
-    (other-byte (byteAt (job-at w) (w .walk .offset)) (c .if4 .left)) (f .early-fault .result) (f .early-fault .ensures) (c .before .if3 .taken)
+    (other-byte (byteAt (job-at w) (w .walk .offset)) (f .before .if3 .left)) (f .early-fault .result) (f .early-fault .ensures) (c .if4 .taken)
 
 same-length-13 : tie.Need-same-length-13 Inv-loop μ-loop Inv-walk μ-walk
 same-length-13 c = (loop-head (turn (c .before .before .before))) .walk .inv .0 .given-kept
@@ -521,7 +517,7 @@ walk-stretch-spec =
     form-width-requires
     number-requires
     in-range-requires
-    cast-t37
+    cast-t36
     add-place
     add-at-2
     loop-less
@@ -529,7 +525,7 @@ walk-stretch-spec =
     relation-names-requires
     absent-requires
     add-if9
-    add-t45
+    add-t44
     next-requires
     hold-joint-requires
     emit-requires

@@ -50,16 +50,16 @@ module _ (c : tie.After-storey-at Inv-loop μ-loop) where
       ∙ set-ranged (s .wall) (s .job .now) (s .at) (s .count) (s .n) (s .rows .now) (turn .loop .rows) (turn .loop .left) (turn .loop .start) (turn .loop .next) (turn .loop .inv) (c .before .loop-test .taken)
 
 -- the words after the row
-row-stored : (c : tie.After-put-row Inv-loop μ-loop) → let l = c .before .before .before .before .before in let s = start-at l .args in
+row-stored : (c : tie.After-put-row Inv-loop μ-loop) → let l = c .before .before .before .before .before .before in let s = start-at l .args in
     c .put-row .last .0 ≡ stored (l .loop .rows) (l .loop .next) (words (l .loop .start) 7 (storeyRowFrom (fraction (s .wall .coefficient)) (s .wall .shear) (s .wall .resistance) (storeyAt (s .job .now) (l .loop .start))))
 row-stored c =
     let r = c .before .before in
-    let a = r .before in
+    let a = r .before .before in
     let l = a .before .before in
     let s = start-at l .args in
     c .put-row .ensures .1
     ∙ ap (λ (row : Row). stored (l .loop .rows) (l .loop .next) (words (l .loop .start) 7 row))
-    (r .storey-row .ensures ∙ ap (storeyRowFrom (fraction (s .wall .coefficient)) (s .wall .shear) (s .wall .resistance)) (storey-is a))
+    (r .storey-row-at .ensures ∙ ap (storeyRowFrom (fraction (s .wall .coefficient)) (s .wall .shear) (s .wall .resistance)) (storey-is a))
 
 loop-holds : tie.Need-loop-holds Inv-loop μ-loop
 loop-holds c =
@@ -69,28 +69,33 @@ loop-holds c =
 storey-at-requires : tie.Need-storey-at-requires Inv-loop μ-loop
 storey-at-requires c κs = set-fits c
 
-storey-row-requires : tie.Need-storey-row-requires Inv-loop μ-loop
-storey-row-requires c κs = let s = start-at (turn c) in (s .pre .0, (s .pre .1 .0 .wall, storey-range (c .storey-at .result) (ranged c)))
+least-root-requires : tie.Need-least-root-requires Inv-loop μ-loop
+least-root-requires c κs = (start-at (turn c) .pre .0, storey-range (c .storey-at .result) (ranged c) .inertia-greatest)
+
+storey-row-at-requires : tie.Need-storey-row-at-requires Inv-loop μ-loop
+storey-row-at-requires c κs =
+    let a = c .before in
+    (start-at (turn a) .pre .1 .0 .wall, (storey-range (a .storey-at .result) (ranged a), c .least-root .ensures .0))
 
 put-row-requires : tie.Need-put-row-requires Inv-loop μ-loop
 put-row-requires c κs =
-    let i = c .before .before .before in
+    let i = c .before .before .before .before in
     let s = start-at (i .before) in
     (omega (arith, i .before .loop .inv .next-is, i .loop-test .taken, s .pre .1 .1), omega (arith, set-fits i, s .good .1 .0))
 
 add-start : tie.Need-add-start Inv-loop μ-loop
-add-start c = let i = c .before .before .before .before .before in omega (arith, set-fits i, start-at (i .before) .good .1 .0)
+add-start c = let i = c .before .before .before .before .before .before in omega (arith, set-fits i, start-at (i .before) .good .1 .0)
 
 sub-left : tie.Need-sub-left Inv-loop μ-loop
-sub-left c = c .before .before .before .before .before .loop-test .taken
+sub-left c = c .before .before .before .before .before .before .loop-test .taken
 
 loop-less : tie.Need-loop-less Inv-loop μ-loop
-loop-less c = omega (arith, c .before .before .before .before .before .loop-test .taken)
+loop-less c = omega (arith, c .before .before .before .before .before .before .loop-test .taken)
 
 loop-again : tie.Need-loop-again Inv-loop μ-loop
 loop-again c =
     let p = c .before in
-    let i = p .before .before .before .before in
+    let i = p .before .before .before .before .before in
     let l = i .before in
     let s = start-at l .args in
     fills-on (s .wall) (s .job .now) (s .at) (s .count) (s .n) (s .rows .now) (l .loop .rows) (l .loop .left) (l .loop .start) (l .loop .next) (l .loop .inv) (i .loop-test .taken)
@@ -113,7 +118,8 @@ write-sets-spec =
     μ-loop
     loop-holds
     storey-at-requires
-    storey-row-requires
+    least-root-requires
+    storey-row-at-requires
     put-row-requires
     add-start
     sub-left
