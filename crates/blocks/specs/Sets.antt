@@ -42,6 +42,12 @@ unfolding inRange
 allInRange [] = true
 allInRange (s ∷ ss) = inRange (storey s) && allInRange ss
 
+-- how many sets stand before the first one out of range; all of them where there is none
+unfoldable pub setsBeforeFault : List Storey → ℕ
+unfolding inRange
+setsBeforeFault [] = 0
+setsBeforeFault (s ∷ ss) = cond (inRange (storey s)) (1 + setsBeforeFault ss) 0
+
 -- the operand at fault among these sets, six a set, counted from 0: that of the first set out of range
 unfoldable pub setAtFault : List Storey → ℕ
 unfolding inRange operandAtFault

@@ -5,7 +5,7 @@ ghost use Prim.Native.Nat.{_+_, _*_, _≤_};
 ghost use lib.ListN.{length};
 ghost use Rattle.format.specs.Commands.{inRange, operandAtFault};
 ghost use Rattle.format.specs.declared.Command.the-variants.{Storey as storey};
-ghost use Rattle.blocks.specs.Sets.{countInRange, storeyAt, storeysAt, setNamed};
+ghost use Rattle.blocks.specs.Sets.{countInRange, storeyAt, storeysAt, setsBeforeFault, setNamed};
 
 // The byte of a block.
 pub const BLOCK: u8 = 11;
@@ -44,20 +44,32 @@ fn operand_named(job: &[u8], start: usize) -> u32
     format::relation_names(7)
 }
 
+// How many of so many sets, the first at an offset, stand before the first one out of range; all of them where there is none.
+fn sets_before_fault(job: &[u8], at: usize, count: usize) -> usize
+    requires room { ⌜ at + 24 * count ≤ length (now job) ⌝ }
+    ensures { λ r. ⌜ r ≡ setsBeforeFault (storeysAt count (now (job .entry)) at) ⌝ }
+{
+    let mut set = 0;
+    let mut start = at;
+    while set < count {
+        if !format::storey_in_range(format::storey_at(job, start)) {
+            return set;
+        }
+        set += 1;
+        start += SET;
+    }
+    set
+}
+
 // The operand at fault among so many sets, the first at an offset, counted from 1, six a set; 0 where every set is in range.
 pub fn set_named(job: &[u8], at: usize, count: usize) -> u32
     requires room { ⌜ at + 24 * count ≤ length (now job) ⌝ }
     requires few { ⌜ count ≤ 64 ⌝ }
     ensures { λ r. ⌜ r ≡ setNamed (storeysAt count (now (job .entry)) at) ⌝ }
 {
-    let mut set = 0;
-    let mut start = at;
-    while set < count {
-        if !format::storey_in_range(format::storey_at(job, start)) {
-            return 1 + 6 * (set as u32) + operand_named(job, start);
-        }
-        set += 1;
-        start += SET;
+    let set = sets_before_fault(job, at, count);
+    if set == count {
+        return 0;
     }
-    0
+    1 + 6 * (set as u32) + operand_named(job, at + SET * set)
 }

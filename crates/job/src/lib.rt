@@ -123,7 +123,7 @@ fn block_fault(job: &[u8], offset: usize, count: u32, given: bool, walled: bool)
     if walled { 0 } else { 6 }
 }
 
-// The commands by themselves from a place on, up to a block, at most so many. `given` and `sums` are the joints' tables, `table` the cubes where they are lent.
+// The commands by themselves from a place on, up to a block, at most so many. The slices are those of `walk`.
 fn walk_stretch(
     job: &[u8],
     start: Place,
@@ -208,7 +208,8 @@ fn walk_stretch(
     StretchEnd { ended, storeys }
 }
 
-// From a place on, at most so many commands of the file. `given` and `sums` are the joints' tables, `table` the cubes where they are lent.
+// From a place on, at most so many commands of the file: stretches of commands by themselves, and the blocks between them. `given` and
+// `sums` are the joints' tables, `table` the cubes where they are lent.
 pub fn walk(
     job: &[u8],
     start: Place,

@@ -1,126 +1,84 @@
--- `blocks::set_named` meets its contract. The loop's invariant: the sets so far are in range (Searching.antt). Assumes nothing.
-use mathlib.Core.Path.{_≡_, sym, ap, _∙_}
-use mathlib.Core.Bool.{false}
-use Prim.Native.Nat.{ℕ, _+_, _-_, _*_, _≤_, _<_}
+-- `blocks::set_named` meets its contract: the operand at fault is that of the set behind those in range (Searching.antt). Assumes nothing.
+use mathlib.Core.Path.{sym, ap, _∙_, subst}
+use Prim.Native.Nat.{ℕ, _+_, _*_, _≤_, _<_}
 use native.Mathlib.Omega.{arith}
 use lib.ListN.{length}
-use borrow.Author.Tests.{not-true, not-false}
-use Rattle.walls.specs.declared.Storey.{Storey}
-use Rattle.format.specs.declared.Command.the-variants.{Storey as storey}
-use Rattle.format.specs.Commands.{inRange}
-use Rattle.blocks.specs.Sets.{storeyAt}
-use Rattle.blocks.proofs.Sets.{fault-below}
-use Rattle.blocks.proofs.Searching.{Searching, search-begins, searches-on, search-found, search-ends}
+use borrow.Author.Needs.{needs}
+use Rattle.blocks.specs.Sets.{storeyAt, storeysAt}
+use Rattle.blocks.proofs.Sets.{fault-below, one-named}
+use Rattle.blocks.proofs.Searching.{Faulty, faulty-at, before-most, all-named}
 use Rattle.blocks.proofs.set_named.Statement.{statement}
 use Rattle.blocks.proofs.set_named.Tie as tie
 
-abbrev Inv-loop : tie.InvT-loop
-Inv-loop job at count set₀ start₀ set start = Searching job at count set start
+-- a set is out of range
+module _ (c : tie.Else1) where
+  abbrev s : tie.Start
+  s = c .before .before .before
 
-abbrev μ-loop : tie.MeasureT-loop
-μ-loop job at count set₀ start₀ set start = count - set
+  abbrev set : ℕ
+  set = c .before .sets-before-fault .result
 
-abbrev start-at : tie.At-loop Inv-loop μ-loop → tie.Start Inv-loop μ-loop
-start-at l = l .before .before
+  found : set < s .args .count
+  found = omega (arith, c .if1 .left, c .before .sets-before-fault .ensures, before-most (s .args .count) (s .args .job .now) (s .args .at))
 
--- the next set lies in the job
-set-fits : (c : tie.In-loop Inv-loop μ-loop) → let s = start-at (c .before) in c .before .loop .start + 24 ≤ length (s .args .job .now)
-set-fits c =
-    let s = start-at (c .before) in
-    omega (arith, c .before .loop .inv .start-is, c .loop-test .taken, s .pre .0)
+  few : set < 64
+  few = omega (arith, found, s .pre .1)
 
--- one of at most 64
-few : (c : tie.In-loop Inv-loop μ-loop) → c .before .loop .set < 64
-few c = omega (arith, c .loop-test .taken, start-at (c .before) .pre .1)
+  fits : s .args .at + 24 * set + 24 ≤ length (s .args .job .now)
+  fits = omega (arith, found, s .pre .0)
 
-module _ (c : tie.After-storey-in-range Inv-loop μ-loop) where
-  abbrev turn : tie.In-loop Inv-loop μ-loop
-  turn = c .before .before
+  faulty : Faulty (storeysAt (s .args .count) (s .args .job .now) (s .args .at)) (s .args .job .now) (s .args .at + 24 * set) set
+  faulty =
+      let e = c .before .sets-before-fault .ensures in
+      subst (Faulty (storeysAt (s .args .count) (s .args .job .now) (s .args .at)) (s .args .job .now) (s .args .at + 24 * set)) (sym e)
+      (faulty-at (s .args .count) (s .args .job .now) (s .args .at) (s .args .at + 24 * set) (ap (λ (n : ℕ). s .args .at + 24 * n) e) (omega (arith, e, found)))
 
-  abbrev here : Storey
-  here = storeyAt (start-at (turn .before) .args .job .now) (turn .before .loop .start)
+sets-before-fault-requires : tie.Need-sets-before-fault-requires
+sets-before-fault-requires c κs = search needs
 
-  storey-is : c .before .storey-at .result ≡ here
-  unfolding storeyAt
-  storey-is = c .before .storey-at .ensures
-
-  tested : c .storey-in-range .result ≡ inRange (storey here)
-  tested = c .storey-in-range .ensures ∙ ap (λ (s : Storey). inRange (storey s)) storey-is
-
-broken : (c : tie.Then1 Inv-loop μ-loop) → inRange (storey (here (c .before))) ≡ false
-broken c = sym (tested (c .before)) ∙ not-true (c .before .storey-in-range .result) (c .if1 .taken)
-
-loop-holds : tie.Need-loop-holds Inv-loop μ-loop
-loop-holds c = search-begins (c .before .args .job .now) (c .before .args .at) (c .before .args .count)
-
-storey-at-requires : tie.Need-storey-at-requires Inv-loop μ-loop
-storey-at-requires c κs = set-fits c
-
-storey-in-range-requires : tie.Need-storey-in-range-requires Inv-loop μ-loop
-storey-in-range-requires c κs = tt
-
-cast-result : tie.Need-cast-result Inv-loop μ-loop
-cast-result c = omega (arith, few (turn (c .before)))
-
-mul-result : tie.Need-mul-result Inv-loop μ-loop
-mul-result c = omega (arith, few (turn (c .before)))
-
-add-result : tie.Need-add-result Inv-loop μ-loop
-add-result c = omega (arith, few (turn (c .before)))
-
-operand-named-requires : tie.Need-operand-named-requires Inv-loop μ-loop
-operand-named-requires c κs = (set-fits (turn (c .before)), broken c)
-
-add-result-2 : tie.Need-add-result-2 Inv-loop μ-loop
-add-result-2 c = omega (arith, few (turn (c .before .before)), c .operand-named .ensures, fault-below (here (c .before .before)))
-
-returns : tie.Need-returns Inv-loop μ-loop
+returns : tie.Need-returns
 returns c =
-    let t = c .before in
-    let i = turn (t .before) in
-    let s = start-at (i .before) in
-    ap (λ (n : ℕ). 1 + 6 * i .before .loop .set + n) (c .operand-named .ensures)
-    ∙ sym (search-found (s .args .job .now) (s .args .at) (s .args .count) (i .before .loop .set) (i .before .loop .start) (i .before .loop .inv) (i .loop-test .taken) (broken t))
+    let s = c .before .before .before in
+    sym (all-named (s .args .count) (s .args .job .now) (s .args .at) (sym (c .before .sets-before-fault .ensures) ∙ c .if1 .taken))
 
-add-set : tie.Need-add-set Inv-loop μ-loop
-add-set c = omega (arith, few (turn (c .before)))
+cast-result : tie.Need-cast-result
+cast-result c = omega (arith, few c)
 
-add-start : tie.Need-add-start Inv-loop μ-loop
-add-start c = let i = turn (c .before) in omega (arith, set-fits i, start-at (i .before) .good .0)
+mul-result : tie.Need-mul-result
+mul-result c = omega (arith, few c)
 
-loop-less : tie.Need-loop-less Inv-loop μ-loop
-loop-less c = omega (arith, turn (c .before) .loop-test .taken)
+add-result : tie.Need-add-result
+add-result c = omega (arith, few c)
 
-loop-again : tie.Need-loop-again Inv-loop μ-loop
-loop-again c =
-    let i = turn (c .before) in
-    let s = start-at (i .before) in
-    searches-on (s .args .job .now) (s .args .at) (s .args .count) (i .before .loop .set) (i .before .loop .start) (i .before .loop .inv) (i .loop-test .taken)
-    (sym (tested (c .before)) ∙ not-false (c .before .storey-in-range .result) (c .if1 .left))
+mul-operand-named : tie.Need-mul-operand-named
+mul-operand-named c = omega (arith, few c)
 
-returns-2 : tie.Need-returns-2 Inv-loop μ-loop
+add-operand-named : tie.Need-add-operand-named
+add-operand-named c = omega (arith, fits c, s c .good .0)
+
+operand-named-requires : tie.Need-operand-named-requires
+operand-named-requires c κs = (fits c, faulty c .out)
+
+add-result-2 : tie.Need-add-result-2
+add-result-2 c = let e = c .before in omega (arith, few e, c .operand-named .ensures, fault-below (storeyAt (s e .args .job .now) (s e .args .at + 24 * set e)))
+
+returns-2 : tie.Need-returns-2
 returns-2 c =
-    let l = c .before in
-    let s = start-at l in
-    sym (search-ends (s .args .job .now) (s .args .at) (s .args .count) (l .loop .set) (l .loop .start) (l .loop .inv) (c .loop-test .left))
+    let e = c .before in
+    let f = faulty e in
+    omega (arith, c .operand-named .ensures, f .fault, one-named (storeysAt (s e .args .count) (s e .args .job .now) (s e .args .at)) (f .some-out))
 
 pub set-named-spec : {M : Type 1} → statement M
 set-named-spec =
     tie.close
     (tie.spec
-    Inv-loop
-    μ-loop
-    loop-holds
-    storey-at-requires
-    storey-in-range-requires
+    sets-before-fault-requires
+    returns
     cast-result
     mul-result
     add-result
+    mul-operand-named
+    add-operand-named
     operand-named-requires
     add-result-2
-    returns
-    add-set
-    add-start
-    loop-less
-    loop-again
     returns-2)
