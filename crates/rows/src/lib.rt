@@ -236,7 +236,7 @@ fn write_sets(
     while 0 < left {
         let storey = format::storey_at(job, start);
         // As in walls::storey_row; through it each storey would be a call that hands its row over in memory.
-        let k = cubes::least_root(table, storey.inertia, storey.baseInertia);
+        let k = cubes::least_root_in_block(table, storey.inertia, storey.baseInertia);
         let row = walls::storey_row_at(wall, storey, k);
         next = put_row(rows, next, start, 7, row);
         start += blocks::SET;

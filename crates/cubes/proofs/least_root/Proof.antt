@@ -3,7 +3,7 @@
 use mathlib.Core.Logic.{⊎-elim}
 use native.Mathlib.Omega.{arith}
 use Rattle.cubes.proofs.Halving.{Bracket, start, raise, keep, met}
-use Rattle.cubes.proofs.Roots.{cube-fits, least-is}
+use Rattle.cubes.proofs.Roots.{least-is}
 use Rattle.cubes.proofs.least_root.Statement.{statement}
 use Rattle.cubes.proofs.least_root.Tie as tie
 
@@ -22,36 +22,32 @@ loop-holds c = start (c .before .pre .1)
 sub-step : tie.Need-sub-step Inv-loop μ-loop
 sub-step c = omega arith
 
-add-cube-of : tie.Need-add-cube-of Inv-loop μ-loop
-add-cube-of c = omega arith
+add-step-added : tie.Need-add-step-added Inv-loop μ-loop
+add-step-added c = omega arith
 
-sub-cube-of : tie.Need-sub-cube-of Inv-loop μ-loop
-sub-cube-of c = omega arith
+sub-step-added : tie.Need-sub-step-added Inv-loop μ-loop
+sub-step-added c = omega arith
 
-cube-of-requires : tie.Need-cube-of-requires Inv-loop μ-loop
-cube-of-requires c κs = (c .before .before .before .pre .0, omega arith)
-
-mul-if1 : tie.Need-mul-if1 Inv-loop μ-loop
-mul-if1 c =
-    let s = c .before .before .before .before in
-    rw (c .cube-of .ensures) (record { fits = cube-fits (s .args .j0) (omega arith) (s .fits .j0 .fits) })
+step-added-requires : tie.Need-step-added-requires Inv-loop μ-loop
+step-added-requires c κs =
+    let s = c .before .before .before in
+    (s .pre .0, (omega arith, s .fits .j0 .fits))
 
 add-low : tie.Need-add-low Inv-loop μ-loop
-add-low c = ⊎-elim (λ w. omega arith) (λ w. omega arith) (c .before .if1 .came)
+add-low c = ⊎-elim (λ w. omega (arith, w .1)) (λ w. omega (arith, w .1)) (c .step-added .ensures)
 
 loop-less : tie.Need-loop-less Inv-loop μ-loop
 loop-less c = omega arith
 
 loop-again : tie.Need-loop-again Inv-loop μ-loop
 loop-again c =
-    let e = c .before .before in
-    let d = e .before in
+    let d = c .before in
     let l = d .before .loop in
     let s = d .before .before .before .args in
     ⊎-elim
-    (λ w. raise (s .j) (s .j0) (l .low) (l .length) (l .rest) (c .before .if1 .added) (l .inv) (d .loop-test .taken) (omega (arith, rw (e .cube-of .ensures) at (w .0 .taken))) (w .1))
-    (λ w. keep (s .j) (s .j0) (l .low) (l .length) (l .rest) (c .before .if1 .added) (l .inv) (d .loop-test .taken) (omega (arith, rw (e .cube-of .ensures) at (w .0 .left))) (w .1))
-    (c .before .if1 .came)
+    (λ w. raise (s .j) (s .j0) (l .low) (l .length) (l .rest) (c .step-added .result) (l .inv) (d .loop-test .taken) (w .0) (w .1))
+    (λ w. keep (s .j) (s .j0) (l .low) (l .length) (l .rest) (c .step-added .result) (l .inv) (d .loop-test .taken) (w .0) (w .1))
+    (c .step-added .ensures)
 
 cast-result : tie.Need-cast-result Inv-loop μ-loop
 cast-result c = omega arith
@@ -68,10 +64,9 @@ least-root-spec =
     mul-need
     loop-holds
     sub-step
-    add-cube-of
-    sub-cube-of
-    cube-of-requires
-    mul-if1
+    add-step-added
+    sub-step-added
+    step-added-requires
     add-low
     loop-less
     loop-again

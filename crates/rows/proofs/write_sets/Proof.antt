@@ -69,13 +69,13 @@ loop-holds c =
 storey-at-requires : tie.Need-storey-at-requires Inv-loop μ-loop
 storey-at-requires c κs = set-fits c
 
-least-root-requires : tie.Need-least-root-requires Inv-loop μ-loop
-least-root-requires c κs = (start-at (turn c) .pre .0, storey-range (c .storey-at .result) (ranged c) .inertia-greatest)
+least-root-in-block-requires : tie.Need-least-root-in-block-requires Inv-loop μ-loop
+least-root-in-block-requires c κs = (start-at (turn c) .pre .0, storey-range (c .storey-at .result) (ranged c) .inertia-greatest)
 
 storey-row-at-requires : tie.Need-storey-row-at-requires Inv-loop μ-loop
 storey-row-at-requires c κs =
     let a = c .before in
-    (start-at (turn a) .pre .1 .0 .wall, (storey-range (a .storey-at .result) (ranged a), c .least-root .ensures .0))
+    (start-at (turn a) .pre .1 .0 .wall, (storey-range (a .storey-at .result) (ranged a), c .least-root-in-block .ensures .0))
 
 put-row-requires : tie.Need-put-row-requires Inv-loop μ-loop
 put-row-requires c κs =
@@ -118,7 +118,7 @@ write-sets-spec =
     μ-loop
     loop-holds
     storey-at-requires
-    least-root-requires
+    least-root-in-block-requires
     storey-row-at-requires
     put-row-requires
     add-start
