@@ -1,8 +1,9 @@
 -- Laws of the sets of a block: how many there are, that each stands in the file with its operands, and the set at fault. Assumes nothing.
 use mathlib.Core.Bool.{Bool, true, false, cond}
 use mathlib.Core.List.{List, _∷_}
-use mathlib.Core.Path.{_≡_, refl, ap}
+use mathlib.Core.Path.{_≡_, refl, sym, ap, _∙_}
 use Prim.Native.Nat.{ℕ, zero, suc, _+_, _≤_, _<_}
+use native.Mathlib.Omega.{arith}
 use lib.Dec.{lit<, leb, ltb}
 use lib.ListN.{length}
 use borrow.Author.Tests.{leb-true, ltb-true}
@@ -80,3 +81,14 @@ none-named ss h = rw h
 pub one-named : (ss : List Storey) → allInRange ss ≡ false → setNamed ss ≡ 1 + setAtFault ss
 unfolding setNamed
 one-named ss h = rw h
+
+-- none is named: each is in range
+pub sets-ranged : (ss : List Storey) (named : ℕ) → named ≡ setNamed ss → named ≡ 0 → allInRange ss ≡ true
+sets-ranged ss named e z = by (allInRange ss) refl
+  where
+    none : (k : ℕ) → 0 ≡ 1 + k → ⊥
+    none k q = omega arith
+
+    by : (k : Bool) → allInRange ss ≡ k → allInRange ss ≡ true
+    by true q = q
+    by false q = absurd (none _ (sym z ∙ e ∙ one-named ss q))

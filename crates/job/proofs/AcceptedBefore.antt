@@ -1,6 +1,6 @@
--- What is accepted with more tests is accepted with fewer, with the same commands of the file and the same placed commands. So every job that document 01 accepts,
--- which refused a joint id given twice with 7, gives the rows that it gave. 02, No. 1: "Jobs accepted before give the same rows."
--- The tests are any whatever, so that no later test is bound to this. Assumes nothing.
+-- What is accepted with more tests is accepted with fewer, with the same commands of the file and the same placed commands. So every job
+-- that document 01 accepts, which refused a joint id given twice with 7, gives the rows that it gave. 02, No. 1: "Jobs accepted before
+-- give the same rows." The tests are any whatever, so that no later test is bound to this. Assumes nothing.
 use mathlib.Core.Path.{_≡_, refl, ap, _∙_}
 use mathlib.Core.Bool.{Bool, true, false}
 use mathlib.Core.List.{List, [], _∷_, _++_}

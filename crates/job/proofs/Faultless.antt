@@ -8,10 +8,11 @@ use Prim.Native.Nat.{ℕ, suc, _+_, _≤_, _<_}
 use native.Mathlib.Omega.{arith}
 use lib.Dec.{eqb, leb, ltb}
 use lib.ListN.{length}
-use borrow.Author.Tests.{ltb-false, leb-false, eqb-true, ne-eqb}
+use borrow.Author.Tests.{ltb-false, leb-true, leb-false, eqb-true, ne-eqb}
 use Rattle.coefficient.specs.declared.Settings.{Settings}
 use Rattle.layout.specs.Layouts.{known}
 use Rattle.layout.specs.Operands.{byteAt}
+use Rattle.layout.proofs.KnownBytes.{known-is}
 use Rattle.walls.specs.declared.Storey.{Storey}
 use Rattle.format.specs.Commands.{byteOf, inRange}
 use Rattle.format.specs.Reading.{commandAt}
@@ -41,6 +42,10 @@ or-true false = refl
 -- the byte is none of a block
 pub other-byte : (byte : ℕ) → (byte ≡ 11 → ⊥) → isBlock byte ≡ false
 other-byte byte n = ne-eqb byte 11 n
+
+-- nor is that of a command by itself
+pub known-single : (byte : ℕ) → known byte ≡ true → isBlock byte ≡ false
+known-single byte k = other-byte byte (λ e. omega (arith, leb-true byte 10 (sym (known-is byte) ∙ k), e))
 
 -- ---- a command by itself
 

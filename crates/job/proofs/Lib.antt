@@ -3,7 +3,6 @@
 mod Steps
 mod Stands
 mod Ways
-mod Stretches
 mod Front
 pub mod PlacedCases
 pub mod Faultless
@@ -25,3 +24,4 @@ pub mod AlreadyMet
 pub mod TwoWalls
 pub mod Refusals
 pub mod BlockTrial
+pub mod BlocksKeep

@@ -1,5 +1,5 @@
 -- The invariant of the walk: the whole walk is what is left of it, with a sound state and sound tables. Assumes nothing.
-use mathlib.Core.Path.{_≡_, _∙_}
+use mathlib.Core.Path.{_≡_, refl, _∙_}
 use mathlib.Core.Bool.{Bool}
 use mathlib.Core.List.{List}
 use Prim.Native.Nat.{ℕ, _+_, _-_, _≤_, _<_}
@@ -7,26 +7,25 @@ use native.Mathlib.Omega.{arith}
 use lib.IntN.{ℤ}
 use lib.ListN.{length}
 use Rattle.layout.specs.Operands.{byteAt}
-use Rattle.context.specs.Running.{JointTable, SoundState, SoundSums}
+use Rattle.context.specs.Running.{JointTable}
 use Rattle.rows.specs.Writing.{storedAll}
 use Rattle.rows.proofs.Memory.{storedAll-keeps}
 use Rattle.job.specs.declared.Place.{Place}
 use Rattle.job.specs.Faults.{afterCommand}
-use Rattle.job.specs.Walking.{Final, faultFrom, commandsHere, jointsThrough, rowsThrough, rowsHere, nextPlace, walkFrom}
+use Rattle.job.specs.Walking.{Final, faultFrom, commandsHere, jointsThrough, rowsThrough, rowsHere, nextPlace, walkFrom, WalkAsks}
 use Rattle.job.proofs.Steps.{walk-step, goes-on, onward}
 use Rattle.job.proofs.Through.{AllIn, sound-through, tables-through, rows-through-le, eights-through}
 
 pub record Stands (room : Bool) (whole : Final) (job : List ℕ) (joints₀ : JointTable) (rows₀ : List ℤ) (joints : JointTable) (rows : List ℤ) (p : Place) (left : ℕ) : Type 0 where
   pub same : whole ≡ walkFrom room left job p joints rows
-  pub state : SoundState (p .state)
-  pub given : length (joints .given) ≡ 256
-  pub sums : SoundSums room (joints .sums)
-  pub offset : p .offset ≤ length job
-  pub count : p .count ≤ 4096
-  pub written : p .rows ≤ p .count + p .count
+  pub asks : WalkAsks job p joints room
   pub given-kept : length (joints .given) ≡ length (joints₀ .given)
   pub sums-kept : length (joints .sums) ≡ length (joints₀ .sums)
   pub rows-kept : length rows ≡ length rows₀
+
+-- at its start
+pub standing : (room : Bool) (job : List ℕ) (joints : JointTable) (rows : List ℤ) (p : Place) (left : ℕ) → WalkAsks job p joints room → Stands room (walkFrom room left job p joints rows) job joints rows joints rows p left
+standing room job joints rows p left a = record { same = refl; asks = a; given-kept = refl; sums-kept = refl; rows-kept = refl }
 
 module _ (room : Bool) (whole : Final) (job : List ℕ) (joints₀ : JointTable) (rows₀ : List ℤ) (joints : JointTable) (rows : List ℤ) (p : Place) (left : ℕ) (s : Stands room whole job joints₀ rows₀ joints rows p left) where
   -- one command of the file further
@@ -40,12 +39,15 @@ module _ (room : Bool) (whole : Final) (job : List ℕ) (joints₀ : JointTable)
       let n = rows-through-le room (p .state) joints here in
       record {
         same = s .same ∙ walk-step room job p joints rows left l ∙ goes-on job p joints rows (onward room (left - 1) job p joints rows) o f b;
-        state = sound-through room (p .state) here r (s .state);
-        given = tables .given ∙ s .given;
-        sums = tables .sound (s .sums);
-        offset = a;
-        count = c;
-        written = omega (arith, s .written);
+        asks =
+            record {
+              state = sound-through room (p .state) here r (s .asks .state);
+              given = tables .given ∙ s .asks .given;
+              sums = tables .sound (s .asks .sums);
+              offset = a;
+              count = c;
+              rows = omega (arith, s .asks .rows);
+            };
         given-kept = tables .given ∙ s .given-kept;
         sums-kept = tables .sums ∙ s .sums-kept;
         rows-kept = storedAll-keeps rows (p .rows) (rowsThrough room (p .state) joints here) (eights-through room (p .state) joints here) ∙ s .rows-kept;

@@ -15,7 +15,7 @@ use Rattle.format.specs.Commands.{byteOf, inRange, operandAtFault}
 use Rattle.format.specs.Reading.{commandAt}
 use Rattle.blocks.specs.Sets.{isBlock, countAt, setsOf, allInRange, setNamed}
 use Rattle.blocks.specs.FileCommands.{fileCommandAt, fileOperandAtFault, storeysFrom, commandsFrom}
-use Rattle.blocks.proofs.Sets.{storeys-length, none-named, one-named}
+use Rattle.blocks.proofs.Sets.{storeys-length, none-named, sets-ranged}
 use Rattle.blocks.proofs.FileCommands.{at-one, at-block, width-one, width-block, storeys-many}
 use Rattle.context.specs.declared.State.{State}
 use Rattle.context.specs.Running.{JointTable, nextState, nextGiven, nextSums, absentIn}
@@ -149,15 +149,8 @@ module _ (room : Bool) (whole : Final) (job : List ℕ) (joints₀ : JointTable)
             refused-with (r .some-left) (r .inside) 4 named (block-fault-is job p joints (r .many) (r .early) false q) (set-is-named job p joints (r .many) (r .early) q ∙ sym e)
 
     module _ (z : named ≡ 0) where
-      pub sets-ranged : allInRange (setsOf job (p .offset)) ≡ true
-      sets-ranged = by (allInRange (setsOf job (p .offset))) refl
-        where
-          none : (k : ℕ) → 0 ≡ 1 + k → ⊥
-          none k q = omega arith
-
-          by : (k : Bool) → allInRange (setsOf job (p .offset)) ≡ k → allInRange (setsOf job (p .offset)) ≡ true
-          by true q = q
-          by false q = absurd (none _ (sym z ∙ e ∙ one-named (setsOf job (p .offset)) q))
+      ranged-sets : allInRange (setsOf job (p .offset)) ≡ true
+      ranged-sets = sets-ranged (setsOf job (p .offset)) named e z
 
       no-end-byte : byteAt job (p .offset) ≡ 0 → ⊥
       no-end-byte q = by (eqb-true (byteAt job (p .offset)) 11 (r .many))
@@ -187,9 +180,9 @@ module _ (room : Bool) (whole : Final) (job : List ℕ) (joints₀ : JointTable)
 
         pub block-on : Stands room whole job joints₀ rows₀ joints rows′ (record { offset = offset; count = count; rows = written; state = p .state }) (left - 1)
         block-on =
-            moved room whole job joints₀ rows₀ joints rows p left s (r .some-left) (r .inside) (block-fault-is job p joints (r .many) (r .early) true sets-ranged) no-end-byte
+            moved room whole job joints₀ rows₀ joints rows p left s (r .some-left) (r .inside) (block-fault-is job p joints (r .many) (r .early) true ranged-sets) no-end-byte
             (omega (arith, block-many job p (r .many), r .early .few))
             (omega (arith, r .early .whole, width-block job (p .offset) (r .many)))
-            (rw block-here (storeys-in (p .offset + 2) (setsOf job (p .offset)) sets-ranged))
+            (rw block-here (storeys-in (p .offset + 2) (setsOf job (p .offset)) ranged-sets))
             joints rows′ (record { offset = offset; count = count; rows = written; state = p .state })
             (sym (ap (jointsThrough room joints) block-here ∙ joints-kept room (p .state) joints (p .offset + 2) (setsOf job (p .offset)))) (e₁ ∙ ap (storedAll rows (p .rows)) block-own) block-place

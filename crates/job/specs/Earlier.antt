@@ -1,5 +1,6 @@
--- The commands before a place in a job: the latest of each kind among them, and those of the file that end at or before an offset. 02, No. 1: "Let the latest definition hold for every later member, while members already met keep the figures they had";
--- No. 4: "those that document 01 gives for the latest base command".
+-- The commands before a place in a job: the latest of each kind among them, and those of the file that end at or before an offset. 02,
+-- No. 1: "Let the latest definition hold for every later member, while members already met keep the figures they had"; No. 4: "those
+-- that document 01 gives for the latest base command".
 use mathlib.Core.Bool.{cond}
 use mathlib.Core.List.{List, [], _∷_}
 use mathlib.Core.Option.{Option, none, some}

@@ -2,13 +2,15 @@
 -- the code stands after some of them, with the state that it holds there: the code's own step, one command after the other.
 use mathlib.Core.Path.{_≡_}
 use mathlib.Core.Bool.{Bool, _||_, cond}
-use mathlib.Core.List.{List, [], _∷_, map}
+use mathlib.Core.List.{List, [], _∷_, _++_, map}
 use Prim.Native.Nat.{ℕ, zero, suc, _+_}
 use lib.Dec.{eqb, leb, ltb}
 use lib.IntN.{ℤ}
 use lib.ListN.{length}
 use Rattle.layout.specs.Operands.{byteAt}
+use Rattle.walls.specs.declared.Storey.{Storey}
 use Rattle.format.specs.declared.Command.{Command}
+use Rattle.blocks.specs.FileCommands.{block}
 use Rattle.context.specs.Context.{Context, nothing}
 use Rattle.context.specs.Running.{JointTable}
 use Rattle.rows.specs.Writing.{storedAll}
@@ -64,3 +66,12 @@ StandsAfter room job joints memory es =
     (n : ℕ) →
     walkFrom room (length es + n) job firstPlace joints memory
     ≡ walkFrom room n job (placeAfter room firstPlace es) (jointsThrough room joints (located (placedAll es))) (storedAll memory 0 (allRows (placedAll es)))
+
+-- ---- behind a block
+
+-- what holds at the command behind a block is what held at the block, wherever the walk reaches both. 02, No. 7: a block gives storeys
+-- and nothing else
+abbrev pub BlocksKeep : List ℕ → Type 0
+BlocksKeep job =
+    (before : List Entry) (x y : Entry) (after : List Entry) → reached job ≡ before ++ x ∷ y ∷ after →
+    (ss : List Storey) → x .given ≡ block ss → y .context ≡ x .context

@@ -2,7 +2,7 @@
 use mathlib.Core.Path.{_≡_}
 use mathlib.Core.Bool.{Bool, true, not, cond}
 use mathlib.Core.List.{List, [], _∷_, _++_, map}
-use Prim.Native.Nat.{ℕ, zero, suc, _+_, _*_, _≤_, _<_}
+use Prim.Native.Nat.{ℕ, zero, suc, _+_, _-_, _*_, _≤_, _<_}
 use lib.Dec.{eqb, leb, ltb}
 use lib.IntN.{ℤ}
 use lib.ListN.{length, replicate}
@@ -20,6 +20,8 @@ use Rattle.rows.specs.Writing.{rowsFrom, storedAll}
 use Rattle.job.specs.declared.Place.{Place}
 use Rattle.job.specs.declared.Stretch.{Stretch}
 use Rattle.job.specs.declared.Stretch.the-variants as stretch
+use Rattle.job.specs.declared.BlockStep.{BlockStep}
+use Rattle.job.specs.declared.BlockStep.the-variants as step
 use Rattle.job.specs.declared.Walked.{Walked}
 use Rattle.job.specs.declared.Walked.the-variants.{Refused, Finished, Paused}
 use Rattle.job.specs.declared.FaultAnswer.{FaultAnswer}
@@ -167,6 +169,25 @@ Stretched room budget whole job joints memory (stretch.Refused number offset ope
 Stretched room budget whole job joints memory (stretch.Finished n) = whole ≡ record { answer = Finished n; joints = joints; memory = memory }
 Stretched room budget whole job joints memory (stretch.Paused p) = whole ≡ record { answer = Paused p; joints = joints; memory = memory }
 Stretched room budget whole job joints memory (stretch.Block p left) = BeforeBlock room budget whole job joints memory p left
+
+-- ---- the step over a block
+
+-- what the code asks for it
+pub record BlockAsks (job : List ℕ) (p : Place) : Type 0 where
+  pub block : isBlock (byteAt job (p .offset)) ≡ true
+  pub inside : p .offset < length job
+  pub state : SoundState (p .state)
+  pub count : p .count ≤ 4096
+  pub rows : p .rows ≤ p .count + p .count
+
+-- how it ended, whatever the joints and the budget are: as a walk from there does, or with the place from which that walk goes on
+abbrev pub BlockStepped : Bool → List ℕ → Place → List ℤ → List ℤ → BlockStep → Type 0
+BlockStepped room job p before after (step.Refused number offset operand) =
+    (left : ℕ) (joints : JointTable) → 0 < left → WalkAsks job p joints room →
+    walkFrom room left job p joints before ≡ record { answer = Refused number offset operand; joints = joints; memory = after }
+BlockStepped room job p before after (step.Passed q) =
+    (left : ℕ) (joints : JointTable) → 0 < left → WalkAsks job p joints room →
+    (walkFrom room left job p joints before ≡ walkFrom room (left - 1) job q joints after) × WalkAsks job q joints room
 
 -- ---- the answers of a walk; one from the start ends within 4,097 commands and never pauses
 

@@ -4,10 +4,11 @@ ghost use mathlib.Core.Path.{_≡_};
 ghost use Prim.Native.Nat.{_≤_, _<_};
 ghost use lib.ListN.{length};
 ghost use Rattle.context.specs.Running.{roomFor};
+ghost use Rattle.layout.specs.Layouts.{operandsWidth};
 ghost use Rattle.layout.specs.Operands.{byteAt};
 ghost use Rattle.cubes.specs.Cube.{LentCubes};
 ghost use Rattle.job.specs.Faults.{tooMany, misplaced};
-ghost use Rattle.job.specs.Walking.{earlyFault, blockEarlyFault, firstPlace, walkFrom, WalkAsks, Stretched, walkedAnswer, walkedFault};
+ghost use Rattle.job.specs.Walking.{earlyFault, blockEarlyFault, firstPlace, walkFrom, WalkAsks, Stretched, BlockAsks, BlockStepped, walkedAnswer, walkedFault};
 ghost use Rattle.job.specs.Answers.{rowCountAnswer, sizeOf, faultOf};
 
 // Where the walk stands: the offset of the next command, the commands and the rows so far, and what holds.
@@ -40,6 +41,14 @@ enum Stretch {
 struct StretchEnd {
     ended: Stretch,
     storeys: bool,
+}
+
+// How the step over a block ended.
+enum BlockStep {
+    // Number, offset, and the operand named.
+    Refused(u32, usize, u32),
+    // The place behind it.
+    Passed(Place),
 }
 
 // A walk: how it ended, and whether it met a storey. No promise rests on the latter: it only tells whether the table of cubes
@@ -77,15 +86,24 @@ fn misplaced_settings(command: u8, given: bool) -> bool
     if given { command == 1 } else { command != 1 }
 }
 
-// The refusals 2, 1, 8 and 4 of the command at an offset of a job of so many bytes, in this order; 0 where none is due.
-fn early_fault(bytes: usize, offset: usize, command: u8, count: u32, given: bool) -> u32
-    requires { ⌜ offset < bytes ⌝ }
+// The refusals 2, 1, 8 and 4 of the command at an offset of a job of so many bytes, with operands of so many, in this order; 0 where
+// none is due.
+fn early_fault(
+    bytes: usize,
+    offset: usize,
+    command: u8,
+    width: usize,
+    count: u32,
+    given: bool,
+) -> u32
+    requires inside { ⌜ offset < bytes ⌝ }
+    requires width { ⌜ width ≡ operandsWidth command ⌝ }
     ensures { λ r. ⌜ r ≡ earlyFault bytes offset command count given ⌝ }
 {
     if !layout::known(command) {
         return 2;
     }
-    if bytes - offset <= layout::operands_width(command) {
+    if bytes - offset <= width {
         return 1;
     }
     if too_many(command, count) {
@@ -157,19 +175,21 @@ fn walk_stretch(
             break 'walk Stretch::Refused(1, offset, 0);
         }
         let byte = job[offset];
-        if byte == blocks::BLOCK {
-            break 'walk Stretch::Block(
-                Place {
-                    offset,
-                    count,
-                    rows: written,
-                    state,
-                },
-                left,
-            );
-        }
-        let early = early_fault(job.len(), offset, byte, count, state.given);
+        let width = layout::operands_width(byte);
+        let early = early_fault(job.len(), offset, byte, width, count, state.given);
         if early != 0 {
+            // The byte of a block is none of a command by itself: 2 is due.
+            if byte == blocks::BLOCK {
+                break 'walk Stretch::Block(
+                    Place {
+                        offset,
+                        count,
+                        rows: written,
+                        state,
+                    },
+                    left,
+                );
+            }
             break 'walk Stretch::Refused(early, offset, 0);
         }
         let command = format::read(job, offset, byte);
@@ -180,12 +200,12 @@ fn walk_stretch(
             let mut at = offset + 1;
             while place < operand_count {
                 let form = layout::form_of(byte, place);
-                let width = layout::form_width(form);
-                if !layout::in_range(form, layout::number(job, at, width)) {
+                let bytes = layout::form_width(form);
+                if !layout::in_range(form, layout::number(job, at, bytes)) {
                     break 'walk Stretch::Refused(5, offset, place as u32);
                 }
                 place += 1;
-                at += width;
+                at += bytes;
             }
             break 'walk Stretch::Refused(5, offset, format::relation_names(byte));
         }
@@ -201,11 +221,39 @@ fn walk_stretch(
         state = context::next(state, room, command);
         context::hold_joint(given, sums, room, command);
         written = rows::emit(rows, written, offset, state, &*sums, table, command);
-        offset = offset + 1 + layout::operands_width(byte);
+        offset = offset + 1 + width;
         count += 1;
         left -= 1;
     };
     StretchEnd { ended, storeys }
+}
+
+// One step over the block at a place: its tests, then its rows.
+fn pass_block(job: &[u8], place: Place, table: &[u64], rows: &mut [i64]) -> BlockStep
+    requires table { ⌜ LentCubes (now table) ⌝ }
+    requires asks { ⌜ BlockAsks (now job) place ⌝ }
+    ensures { λ r. ⌜ BlockStepped (roomFor (length (now (rows .entry)))) (now (job .entry)) place (now (rows .entry)) (now (rows .exit)) r ⌝ }
+{
+    let offset = place.offset;
+    let count = place.count;
+    let state = place.state;
+    let early = block_fault(job, offset, count, state.given, state.walled);
+    if early != 0 {
+        return BlockStep::Refused(early, offset, 0);
+    }
+    let sets = job[offset + 1] as usize;
+    let named = blocks::set_named(job, offset + 2, sets);
+    if named != 0 {
+        return BlockStep::Refused(5, offset, named);
+    }
+    let written = rows::emit_sets(rows, place.rows, job, offset + 2, sets, state.wall, table);
+    let weight = sets as u32;
+    BlockStep::Passed(Place {
+        offset: offset + 2 + blocks::SET * sets,
+        count: count + weight,
+        rows: written,
+        state,
+    })
 }
 
 // From a place on, at most so many commands of the file: stretches of commands by themselves, and the blocks between them. `given` and
@@ -223,10 +271,13 @@ pub fn walk(
     requires asks { ⌜ WalkAsks (now job) start (record { given = now given; sums = now sums }) (roomFor (length (now rows))) ⌝ }
     ensures { λ r. ⌜ walkFrom (roomFor (length (now (rows .entry)))) budget (now (job .entry)) start (record { given = now (given .entry); sums = now (sums .entry) }) (now (rows .entry)) ≡ record { answer = r .ended; joints = record { given = now (given .exit); sums = now (sums .exit) }; memory = now (rows .exit) } ⌝ }
 {
-    let mut end = walk_stretch(job, start, budget, given, sums, table, rows);
-    let mut storeys = end.storeys;
+    let mut place = start;
+    let mut left = budget;
+    let mut storeys = false;
     let ended = 'walk: loop {
-        let ended = end.ended;
+        let stretch = walk_stretch(job, place, left, given, sums, table, rows);
+        storeys = storeys | stretch.storeys;
+        let ended = stretch.ended;
         match ended {
             Stretch::Refused(number, offset, operand) => {
                 break 'walk Walked::Refused(number, offset, operand);
@@ -234,40 +285,21 @@ pub fn walk(
             Stretch::Finished(n) => {
                 break 'walk Walked::Finished(n);
             }
-            Stretch::Paused(place) => {
-                break 'walk Walked::Paused(place);
+            Stretch::Paused(here) => {
+                break 'walk Walked::Paused(here);
             }
-            Stretch::Block(place, left) => {
-                let offset = place.offset;
-                let count = place.count;
-                let state = place.state;
-                let early = block_fault(job, offset, count, state.given, state.walled);
-                if early != 0 {
-                    break 'walk Walked::Refused(early, offset, 0);
+            Stretch::Block(here, rest) => {
+                let step = pass_block(job, here, table, rows);
+                match step {
+                    BlockStep::Refused(number, offset, operand) => {
+                        break 'walk Walked::Refused(number, offset, operand);
+                    }
+                    BlockStep::Passed(behind) => {
+                        place = behind;
+                        left = rest - 1;
+                        storeys = true;
+                    }
                 }
-                let sets = job[offset + 1] as usize;
-                let named = blocks::set_named(job, offset + 2, sets);
-                if named != 0 {
-                    break 'walk Walked::Refused(5, offset, named);
-                }
-                let written = rows::emit_sets(
-                    rows,
-                    place.rows,
-                    job,
-                    offset + 2,
-                    sets,
-                    state.wall,
-                    table,
-                );
-                let weight = sets as u32;
-                let next = Place {
-                    offset: offset + 2 + blocks::SET * sets,
-                    count: count + weight,
-                    rows: written,
-                    state,
-                };
-                storeys = true;
-                end = walk_stretch(job, next, left - 1, given, sums, table, rows);
             }
         }
     };

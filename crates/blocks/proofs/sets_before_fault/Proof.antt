@@ -1,7 +1,7 @@
 -- `blocks::sets_before_fault` meets its contract. The loop's invariant: the sets so far are in range (Searching.antt). Assumes nothing.
 use mathlib.Core.Path.{_≡_, sym, ap, _∙_}
 use mathlib.Core.Bool.{false}
-use Prim.Native.Nat.{ℕ, _+_, _-_, _*_, _≤_, _<_}
+use Prim.Native.Nat.{_+_, _-_, _≤_}
 use native.Mathlib.Omega.{arith}
 use lib.ListN.{length}
 use borrow.Author.Tests.{not-true, not-false}
@@ -9,7 +9,6 @@ use Rattle.walls.specs.declared.Storey.{Storey}
 use Rattle.format.specs.declared.Command.the-variants.{Storey as storey}
 use Rattle.format.specs.Commands.{inRange}
 use Rattle.blocks.specs.Sets.{storeyAt}
-use Rattle.blocks.proofs.Sets.{fault-below}
 use Rattle.blocks.proofs.Searching.{Searching, search-begins, searches-on, search-found, search-ends}
 use Rattle.blocks.proofs.sets_before_fault.Statement.{statement}
 use Rattle.blocks.proofs.sets_before_fault.Tie as tie

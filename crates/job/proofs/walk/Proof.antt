@@ -1,158 +1,113 @@
--- `job::walk` meets its contract. The loop's invariant: the latest stretch leaves as much of any walk as the first one did
--- (Stretches.antt). Each way out, and the way on after a block, is a law of Ways.antt. Assumes nothing.
-use mathlib.Core.Path.{_≡_, refl, sym, ap, _∙_, subst}
-use mathlib.Core.Bool.{Bool, true}
+-- `job::walk` meets its contract. The loop's invariant: the whole walk is what is left of it (Stands.antt), before each stretch. A
+-- stretch leaves the answer, or a block, which `pass_block` refuses or passes. Assumes nothing.
+use mathlib.Core.Path.{_≡_, sym, ap, _∙_, subst}
+use mathlib.Core.Bool.{Bool}
 use mathlib.Core.List.{List}
-use Prim.Native.Nat.{ℕ, _+_, _-_, _*_, _^_, _≤_, _<_}
+use Prim.Native.Nat.{ℕ}
 use native.Mathlib.Omega.{arith}
+use lib.IntN.{ℤ}
 use lib.ListN.{length}
 use borrow.Author.Needs.{needs}
-use Rattle.blocks.specs.Sets.{countAt, setsOf, allInRange}
-use Rattle.blocks.proofs.Sets.{count-range}
-use Rattle.context.specs.Running.{roomFor, JointTable, SoundSums}
+use Rattle.context.specs.Running.{roomFor, JointTable}
 use Rattle.job.specs.declared.Place.{Place}
-use Rattle.job.specs.Walking.{walkFrom, Final, Stretched, BeforeBlock}
-use Rattle.job.proofs.Steps.{block-early-none}
-use Rattle.job.proofs.Stands.{Stands}
-use Rattle.job.proofs.Ways.{BlockReached, block-refused-early, set-refused, sets-ranged, block-on}
-use Rattle.job.proofs.Stretches.{leftOf, left-within, Onward, stands-before, onward}
+use Rattle.job.specs.Walking.{walkFrom, Final, WalkAsks, Stretched, BeforeBlock, BlockStepped}
+use Rattle.job.proofs.Stands.{Stands, standing}
 use Rattle.job.proofs.walk.Statement.{statement}
 use Rattle.job.proofs.walk.Tie as tie
 
 abbrev Inv-walk : tie.InvT-walk
-Inv-walk job budget given₀ sums₀ table rows₀ end₀ storeys₀ given sums rows end storeys =
-    Onward (roomFor (length rows₀)) budget job (record { given = given₀; sums = sums₀ }) rows₀ (end₀ .ended) (record { given = given; sums = sums }) rows (end .ended)
+Inv-walk job budget given₀ sums₀ table rows₀ place₀ left₀ storeys₀ given sums rows place left storeys =
+    Stands (roomFor (length rows₀)) (walkFrom (roomFor (length rows₀)) left₀ job place₀ (record { given = given₀; sums = sums₀ }) rows₀) job
+    (record { given = given₀; sums = sums₀ }) rows₀ (record { given = given; sums = sums }) rows place left
 
 abbrev μ-walk : tie.MeasureT-walk
-μ-walk job budget given₀ sums₀ table rows₀ end₀ storeys₀ given sums rows end storeys = leftOf (end .ended)
+μ-walk job budget given₀ sums₀ table rows₀ place₀ left₀ storeys₀ given sums rows place left storeys =
+    left
 
--- ---- where the walk stands, at the head of the loop
+-- ---- at the head of the loop
 
-abbrev first-stretch : tie.At-walk Inv-walk μ-walk → tie.After-walk-stretch Inv-walk μ-walk
-first-stretch w = w .before .before .before .before .before .before
+module _ (w : tie.At-walk Inv-walk μ-walk) where
+  abbrev start : tie.Start Inv-walk μ-walk
+  start = w .before .before .before .before .before
 
-abbrev start-at : tie.At-walk Inv-walk μ-walk → tie.Start Inv-walk μ-walk
-start-at w = first-stretch w .before .before .before .before .before .before .before .before
+  abbrev job : List ℕ
+  job = start .args .job .now
 
-abbrev job-at : tie.At-walk Inv-walk μ-walk → List ℕ
-job-at w = start-at w .args .job .now
+  abbrev room : Bool
+  room = roomFor (length (start .args .rows .now))
 
-abbrev joints-at : tie.At-walk Inv-walk μ-walk → JointTable
-joints-at w = record { given = w .walk .given; sums = w .walk .sums }
+  -- the whole walk, with the tables and the rows as they were lent
+  abbrev whole : Final
+  whole = walkFrom room (start .args .budget) job (start .args .start) (record { given = start .args .given .now; sums = start .args .sums .now }) (start .args .rows .now)
 
--- the room, by the rows that the first stretch left
-abbrev room-at : tie.At-walk Inv-walk μ-walk → Bool
-room-at w = roomFor (length (first-stretch w .walk-stretch .last .1 .1 .1 .1 .1 .1 .0))
+-- ---- behind a stretch
 
--- the whole walk, with the tables and the rows as they were lent
-abbrev whole : tie.At-walk Inv-walk μ-walk → Final
-whole w =
-    let a = start-at w .args in
-    walkFrom (roomFor (length (a .rows .now))) (a .budget) (a .job .now) (a .start) (record { given = a .given .now; sums = a .sums .now }) (a .rows .now)
+module _ (k : tie.After-struct-known Inv-walk μ-walk) where
+  abbrev stretch : tie.After-walk-stretch Inv-walk μ-walk
+  stretch = k .before .before .before .before .before .before
 
--- what the latest stretch leaves of it
-stretched : (w : tie.At-walk Inv-walk μ-walk) → Stretched (room-at w) (start-at w .args .budget) (whole w) (job-at w) (joints-at w) (w .walk .rows) (w .walk .end .ended)
-stretched w =
-    let f = first-stretch w .walk-stretch in
-    w .walk .inv .same (whole w)
-    (subst (λ (room : Bool). Stretched room (start-at w .args .budget) (whole w) (job-at w) (record { given = f .last .1 .1 .1 .0; sums = f .last .1 .1 .1 .1 .0 }) (f .last .1 .1 .1 .1 .1 .1 .0) (f .result .ended))
-    (sym (ap roomFor (f .kept .1 .1 .1 .1 .1 .1 .0))) (f .ensures))
+  abbrev head : tie.At-walk Inv-walk μ-walk
+  head = stretch .before .before .before .before
 
-given-kept : (w : tie.At-walk Inv-walk μ-walk) → length (w .walk .given) ≡ length (start-at w .args .given .now)
-given-kept w = w .walk .inv .given-kept ∙ first-stretch w .walk-stretch .kept .1 .1 .1 .0
+  abbrev joints : JointTable
+  joints = record { given = stretch .walk-stretch .last .1 .1 .1 .0; sums = stretch .walk-stretch .last .1 .1 .1 .1 .0 }
 
-sums-kept : (w : tie.At-walk Inv-walk μ-walk) → length (w .walk .sums) ≡ length (start-at w .args .sums .now)
-sums-kept w = w .walk .inv .sums-kept ∙ first-stretch w .walk-stretch .kept .1 .1 .1 .1 .0
+  abbrev rows : List ℤ
+  rows = stretch .walk-stretch .last .1 .1 .1 .1 .1 .1 .0
 
-rows-kept : (w : tie.At-walk Inv-walk μ-walk) → length (w .walk .rows) ≡ length (start-at w .args .rows .now)
-rows-kept w = w .walk .inv .rows-kept ∙ first-stretch w .walk-stretch .kept .1 .1 .1 .1 .1 .1 .0
+  given-kept : length (joints .given) ≡ length (start head .args .given .now)
+  given-kept = stretch .walk-stretch .kept .1 .1 .1 .0 ∙ head .walk .inv .given-kept
+
+  sums-kept : length (joints .sums) ≡ length (start head .args .sums .now)
+  sums-kept = stretch .walk-stretch .kept .1 .1 .1 .1 .0 ∙ head .walk .inv .sums-kept
+
+  rows-kept : length rows ≡ length (start head .args .rows .now)
+  rows-kept = stretch .walk-stretch .kept .1 .1 .1 .1 .1 .1 .0 ∙ head .walk .inv .rows-kept
+
+  -- what it leaves of the whole walk
+  stretched : Stretched (room head) (head .walk .left) (whole head) (job head) joints rows (stretch .walk-stretch .result .ended)
+  stretched =
+      subst (λ (f : Final). Stretched (room head) (head .walk .left) f (job head) joints rows (stretch .walk-stretch .result .ended)) (sym (head .walk .inv .same))
+      (subst
+      (λ (r : Bool). Stretched r (head .walk .left) (walkFrom r (head .walk .left) (job head) (head .walk .place) (record { given = head .walk .given; sums = head .walk .sums }) (head .walk .rows)) (job head) joints rows (stretch .walk-stretch .result .ended))
+      (ap roomFor (head .walk .inv .rows-kept)) (stretch .walk-stretch .ensures))
 
 -- ---- a block is next
 
-module _ (c : tie.After-state Inv-walk μ-walk) where
-  abbrev w : tie.At-walk Inv-walk μ-walk
-  w = c .before .before .before .before
+module _ (t : tie.After-ended4 Inv-walk μ-walk) where
+  abbrev behind : tie.After-struct-known Inv-walk μ-walk
+  behind = t .before .before
 
-  abbrev place : Place
-  place = c .before .before .ended4 .given .0 .0
+  abbrev here : Place
+  here = t .ended4 .given .0 .0
 
-  abbrev left : ℕ
-  left = c .before .before .ended4 .given .0 .1 .0
+  abbrev rest : ℕ
+  rest = t .ended4 .given .0 .1 .0
 
-  before-block : BeforeBlock (room-at w) (start-at w .args .budget) (whole w) (job-at w) (joints-at w) (w .walk .rows) place left
-  before-block = subst (Stretched (room-at w) (start-at w .args .budget) (whole w) (job-at w) (joints-at w) (w .walk .rows)) (c .before .before .ended4 .given .1) (stretched w)
+  before-block : BeforeBlock (room (head behind)) (head behind .walk .left) (whole (head behind)) (job (head behind)) (joints behind) (rows behind) here rest
+  before-block = subst (Stretched (room (head behind)) (head behind .walk .left) (whole (head behind)) (job (head behind)) (joints behind) (rows behind)) (t .ended4 .given .1) (stretched behind)
 
-  standing : Stands (room-at w) (whole w) (job-at w) (joints-at w) (w .walk .rows) (joints-at w) (w .walk .rows) place left
-  standing = stands-before (room-at w) (start-at w .args .budget) (whole w) (job-at w) (joints-at w) (w .walk .rows) place left before-block
+-- the step over it
+module _ (q : tie.After-pass-block Inv-walk μ-walk) where
+  abbrev block : tie.After-ended4 Inv-walk μ-walk
+  block = q .before .before .before
 
--- its sets may be read
-module _ (c : tie.Else1 Inv-walk μ-walk) where
-  abbrev s : tie.After-state Inv-walk μ-walk
-  s = c .before .before
-
-  reached : BlockReached (job-at (w s)) (place s) (left s)
-  reached =
-      record {
-        some-left = before-block s .some-left;
-        inside = before-block s .inside;
-        many = before-block s .block;
-        early = block-early-none (job-at (w s)) (place s) (sym (c .before .block-fault .ensures) ∙ c .if1 .left);
-      }
-
-  -- at most 64
-  few-sets : countAt (job-at (w s)) (place s .offset) ≤ 64
-  few-sets = count-range (countAt (job-at (w s)) (place s .offset)) (reached .early .count-in-range) .1
-
-  whole-block : place s .offset + 2 + 24 * countAt (job-at (w s)) (place s .offset) < 2 ^ 64
-  whole-block = omega (arith, reached .early .whole, start-at (w s) .good .0)
-
--- they are in range
-module _ (f : tie.Else2 Inv-walk μ-walk) where
-  abbrev e : tie.Else1 Inv-walk μ-walk
-  e = f .before .before .before
-
-  ranged : allInRange (setsOf (job-at (w (s e))) (place (s e) .offset)) ≡ true
-  ranged =
-      let h = w (s e) in
-      sets-ranged (room-at h) (whole h) (job-at h) (joints-at h) (h .walk .rows) (joints-at h) (h .walk .rows) (place (s e)) (left (s e)) (standing (s e)) (reached e)
-      (f .before .set-named .result) (f .before .set-named .ensures) (f .if2 .left)
-
--- the walk after it
-module _ (m : tie.After-rows2 Inv-walk μ-walk) where
-  abbrev ok : tie.Else2 Inv-walk μ-walk
-  ok = m .before .before .before
-
-  abbrev e2 : tie.Else1 Inv-walk μ-walk
-  e2 = e ok
-
-  abbrev h2 : tie.At-walk Inv-walk μ-walk
-  h2 = w (s e2)
-
-  abbrev next : Place
-  next =
-      record {
-        offset = place (s e2) .offset + 2 + 24 * countAt (job-at h2) (place (s e2) .offset);
-        count = place (s e2) .count + countAt (job-at h2) (place (s e2) .offset);
-        rows = m .before .emit-sets .result;
-        state = place (s e2) .state;
-      }
-
-  passed : Stands (room-at h2) (whole h2) (job-at h2) (joints-at h2) (h2 .walk .rows) (joints-at h2) (m .before .emit-sets .last .0) next (left (s e2) - 1)
-  passed =
-      block-on (room-at h2) (whole h2) (job-at h2) (joints-at h2) (h2 .walk .rows) (joints-at h2) (h2 .walk .rows) (place (s e2)) (left (s e2)) (standing (s e2)) (reached e2)
-      (ok .before .set-named .result) (ok .before .set-named .ensures) (ok .if2 .left)
-      (m .before .emit-sets .last .0) _ _ (m .before .emit-sets .result) (m .before .emit-sets .ensures .1) (m .before .emit-sets .ensures .0) refl refl
-
-  room-kept : room-at h2 ≡ roomFor (length (m .before .emit-sets .last .0))
-  room-kept = ap roomFor (sym (m .before .emit-sets .kept .0 ∙ h2 .walk .inv .rows-kept))
+  stepped : BlockStepped (room (head (behind block))) (job (head (behind block))) (here block) (rows (behind block)) (q .pass-block .last .1 .1 .1 .0) (q .pass-block .result)
+  stepped =
+      subst (λ (r : Bool). BlockStepped r (job (head (behind block))) (here block) (rows (behind block)) (q .pass-block .last .1 .1 .1 .0) (q .pass-block .result))
+      (ap roomFor (rows-kept (behind block))) (q .pass-block .ensures)
 
 -- ---- the needs
 
-walk-stretch-requires : tie.Need-walk-stretch-requires Inv-walk μ-walk
-walk-stretch-requires c κs = let s = c .before .before .before .before .before .before .before in s .pre
-
 walk-holds : tie.Need-walk-holds Inv-walk μ-walk
-walk-holds c = record { same = λ whole h. h; given-kept = refl; sums-kept = refl; rows-kept = refl }
+walk-holds c =
+    let s = c .before .before .before .before in
+    standing (roomFor (length (s .args .rows .now))) (s .args .job .now) (record { given = s .args .given .now; sums = s .args .sums .now }) (s .args .rows .now) (s .args .start) (s .args .budget) (s .pre .1)
+
+walk-stretch-requires : tie.Need-walk-stretch-requires Inv-walk μ-walk
+walk-stretch-requires c κs =
+    let w = c .before .before .before in
+    (start w .pre .0, subst (WalkAsks (job w) (w .walk .place) (record { given = w .walk .given; sums = w .walk .sums })) (sym (ap roomFor (w .walk .inv .rows-kept))) (w .walk .inv .asks))
 
 enum-known-ended : tie.Need-enum-known-ended Inv-walk μ-walk
 enum-known-ended c = search needs
@@ -166,94 +121,32 @@ enum-known-ended-3 c = search needs
 enum-known-ended-4 : tie.Need-enum-known-ended-4 Inv-walk μ-walk
 enum-known-ended-4 c = search needs
 
-block-fault-requires : tie.Need-block-fault-requires Inv-walk μ-walk
-block-fault-requires c κs = (before-block c .inside, before-block c .asks .count)
+pass-block-requires : tie.Need-pass-block-requires Inv-walk μ-walk
+pass-block-requires c κs =
+    let t = c .before .before in
+    let b = before-block t in
+    (start (head (behind t)) .pre .0, record { block = b .block; inside = b .inside; state = b .asks .state; count = b .asks .count; rows = b .asks .rows })
 
-add-sets : tie.Need-add-sets Inv-walk μ-walk
-add-sets c = omega (arith, whole-block c)
+enum-known-step : tie.Need-enum-known-step Inv-walk μ-walk
+enum-known-step c = search needs
 
-shared-slice-read-sets : tie.Need-shared-slice-read-sets Inv-walk μ-walk
-shared-slice-read-sets c = reached (c .before) .early .counted
+enum-known-step-2 : tie.Need-enum-known-step-2 Inv-walk μ-walk
+enum-known-step-2 c = search needs
 
-cast-sets : tie.Need-cast-sets Inv-walk μ-walk
-cast-sets c = omega (arith, few-sets (c .before))
-
-add-set-named : tie.Need-add-set-named Inv-walk μ-walk
-add-set-named c = omega (arith, whole-block (c .before))
-
-set-named-requires : tie.Need-set-named-requires Inv-walk μ-walk
-set-named-requires c κs = (reached (c .before) .early .whole, few-sets (c .before))
-
-add-emit-sets : tie.Need-add-emit-sets Inv-walk μ-walk
-add-emit-sets c = omega (arith, whole-block (e (c .before)))
-
-emit-sets-requires : tie.Need-emit-sets-requires Inv-walk μ-walk
-emit-sets-requires c κs =
-    let f = c .before in
-    let h = w (s (e f)) in (
-      start-at h .pre .0,
-      (
-        record { wall = before-block (s (e f)) .asks .state .wall; whole = reached (e f) .early .whole; in-range = ranged f },
-        omega (arith, before-block (s (e f)) .asks .rows, reached (e f) .early .few),
-      ),
-    )
-
-cast-weight : tie.Need-cast-weight Inv-walk μ-walk
-cast-weight c = omega (arith, few-sets (e2 c))
-
-add-t36 : tie.Need-add-t36 Inv-walk μ-walk
-add-t36 c = omega (arith, whole-block (e2 c))
-
-mul-t41 : tie.Need-mul-t41 Inv-walk μ-walk
-mul-t41 c = omega (arith, few-sets (e2 c))
-
-add-t42 : tie.Need-add-t42 Inv-walk μ-walk
-add-t42 c = omega (arith, whole-block (e2 c))
-
-add-walk-stretch : tie.Need-add-walk-stretch Inv-walk μ-walk
-add-walk-stretch c = omega (arith, reached (e2 c) .early .few)
-
-sub-walk-stretch : tie.Need-sub-walk-stretch Inv-walk μ-walk
-sub-walk-stretch c = reached (e2 c) .some-left
-
-walk-stretch-requires-2 : tie.Need-walk-stretch-requires-2 Inv-walk μ-walk
-walk-stretch-requires-2 c κs =
-    let m = c .before .before .before in
-    let p = passed m in (
-      start-at (h2 m) .pre .0,
-      record { state = p .state; given = p .given; sums = subst (λ (room : Bool). SoundSums room (h2 m .walk .sums)) (room-kept m) (p .sums); offset = p .offset; count = p .count; rows = p .written },
-    )
+sub-left : tie.Need-sub-left Inv-walk μ-walk
+sub-left c = let b = before-block (c .before .before .before .before .before .before .before) in omega (arith, b .some-left, b .fewer)
 
 walk-less : tie.Need-walk-less Inv-walk μ-walk
-walk-less c =
-    let t = c .before .before .before .before .before in
-    let m = t .before .before .before .before in
-    let n = s (e2 m) in
-    omega (
-      arith,
-      left-within (roomFor (length (m .before .emit-sets .last .0))) (left n - 1) _ (job-at (h2 m)) _ _ (t .walk-stretch2 .result .ended) (t .walk-stretch2 .ensures),
-      ap leftOf (n .before .before .ended4 .given .1),
-      before-block n .some-left,
-    )
+walk-less c = let b = before-block (c .before .before .before .before .before .before .before) in omega (arith, b .some-left, b .fewer)
 
 walk-again : tie.Need-walk-again Inv-walk μ-walk
 walk-again c =
-    let t = c .before .before .before .before .before in
-    let m = t .before .before .before .before in
-    let n = s (e2 m) in
-    let h = h2 m in
-    let f = first-stretch h .walk-stretch in
-    let g = t .walk-stretch2 in
-    let rows = m .before .emit-sets .last .0 in
-    let after =
-    subst
-    (λ (room : Bool). Stretched room (left n - 1) (walkFrom room (left n - 1) (job-at h) (next m) (joints-at h) rows) (job-at h) (record { given = g .last .1 .1 .1 .0; sums = g .last .1 .1 .1 .1 .0 }) (g .last .1 .1 .1 .1 .1 .1 .0) (g .result .ended))
-    (sym (room-kept m)) (g .ensures) in
-    onward (room-at h) (start-at h .args .budget) (job-at h) (record { given = f .last .1 .1 .1 .0; sums = f .last .1 .1 .1 .1 .0 }) (f .last .1 .1 .1 .1 .1 .1 .0) (f .result .ended)
-    (joints-at h) (h .walk .rows) (h .walk .end .ended) (h .walk .inv) (place n) (left n) (n .before .before .ended4 .given .1) (next m) (m .before .emit-sets .last .0)
-    (sym (before-block n .same) ∙ passed m .same)
-    (record { given = g .last .1 .1 .1 .0; sums = g .last .1 .1 .1 .1 .0 }) (g .last .1 .1 .1 .1 .1 .1 .0) (g .result .ended) after
-    (g .kept .1 .1 .1 .0) (g .kept .1 .1 .1 .1 .0) (g .kept .1 .1 .1 .1 .1 .1 .0 ∙ m .before .emit-sets .kept .0)
+    let q = c .before .before .before .before in
+    let t = block q in
+    let k = behind t in
+    let b = before-block t in
+    let on = subst (BlockStepped (room (head k)) (job (head k)) (here t) (rows k) (q .pass-block .last .1 .1 .1 .0)) (c .before .step2 .given .1) (stepped q) (rest t) (joints k) (b .some-left) (b .asks) in
+    record { same = b .same ∙ on .0; asks = on .1; given-kept = given-kept k; sums-kept = sums-kept k; rows-kept = q .pass-block .kept .1 .1 .1 .0 ∙ rows-kept k }
 
 same-length : tie.Need-same-length Inv-walk μ-walk
 same-length c = given-kept (c .before .before .before)
@@ -265,7 +158,9 @@ same-length-3 : tie.Need-same-length-3 Inv-walk μ-walk
 same-length-3 c = rows-kept (c .before .before .before)
 
 returns : tie.Need-returns Inv-walk μ-walk
-returns c = let w = c .before .before .before in subst (Stretched (room-at w) (start-at w .args .budget) (whole w) (job-at w) (joints-at w) (w .walk .rows)) (c .before .ended .given .1) (stretched w)
+returns c =
+    let k = c .before .before .before in
+    subst (Stretched (room (head k)) (head k .walk .left) (whole (head k)) (job (head k)) (joints k) (rows k)) (c .before .ended .given .1) (stretched k)
 
 same-length-4 : tie.Need-same-length-4 Inv-walk μ-walk
 same-length-4 c = given-kept (c .before .before .before)
@@ -277,7 +172,9 @@ same-length-6 : tie.Need-same-length-6 Inv-walk μ-walk
 same-length-6 c = rows-kept (c .before .before .before)
 
 returns-2 : tie.Need-returns-2 Inv-walk μ-walk
-returns-2 c = let w = c .before .before .before in subst (Stretched (room-at w) (start-at w .args .budget) (whole w) (job-at w) (joints-at w) (w .walk .rows)) (c .before .ended2 .given .1) (stretched w)
+returns-2 c =
+    let k = c .before .before .before in
+    subst (Stretched (room (head k)) (head k .walk .left) (whole (head k)) (job (head k)) (joints k) (rows k)) (c .before .ended2 .given .1) (stretched k)
 
 same-length-7 : tie.Need-same-length-7 Inv-walk μ-walk
 same-length-7 c = given-kept (c .before .before .before)
@@ -289,40 +186,27 @@ same-length-9 : tie.Need-same-length-9 Inv-walk μ-walk
 same-length-9 c = rows-kept (c .before .before .before)
 
 returns-3 : tie.Need-returns-3 Inv-walk μ-walk
-returns-3 c = let w = c .before .before .before in subst (Stretched (room-at w) (start-at w .args .budget) (whole w) (job-at w) (joints-at w) (w .walk .rows)) (c .before .ended3 .given .1) (stretched w)
+returns-3 c =
+    let k = c .before .before .before in
+    subst (Stretched (room (head k)) (head k .walk .left) (whole (head k)) (job (head k)) (joints k) (rows k)) (c .before .ended3 .given .1) (stretched k)
 
 same-length-10 : tie.Need-same-length-10 Inv-walk μ-walk
-same-length-10 c = given-kept (w (c .before .before))
+same-length-10 c = given-kept (behind (block (c .before .before .before .before)))
 
 same-length-11 : tie.Need-same-length-11 Inv-walk μ-walk
-same-length-11 c = sums-kept (w (c .before .before))
+same-length-11 c = sums-kept (behind (block (c .before .before .before .before)))
 
 same-length-12 : tie.Need-same-length-12 Inv-walk μ-walk
-same-length-12 c = rows-kept (w (c .before .before))
+same-length-12 c = let q = c .before .before .before .before in q .pass-block .kept .1 .1 .1 .0 ∙ rows-kept (behind (block q))
 
 returns-4 : tie.Need-returns-4 Inv-walk μ-walk
 returns-4 c =
-    let n = c .before .before in
-    let h = w n in
-    block-refused-early (room-at h) (whole h) (job-at h) (joints-at h) (h .walk .rows) (joints-at h) (h .walk .rows) (place n) (left n) (standing n) (before-block n .some-left) (before-block n .inside) (before-block n .block)
-    (c .before .block-fault .result) (c .before .block-fault .ensures) (c .if1 .taken)
-
-same-length-13 : tie.Need-same-length-13 Inv-walk μ-walk
-same-length-13 c = given-kept (w (s (c .before .before .before)))
-
-same-length-14 : tie.Need-same-length-14 Inv-walk μ-walk
-same-length-14 c = sums-kept (w (s (c .before .before .before)))
-
-same-length-15 : tie.Need-same-length-15 Inv-walk μ-walk
-same-length-15 c = rows-kept (w (s (c .before .before .before)))
-
-returns-5 : tie.Need-returns-5 Inv-walk μ-walk
-returns-5 c =
-    let o = c .before .before .before in
-    let n = s o in
-    let h = w n in
-    set-refused (room-at h) (whole h) (job-at h) (joints-at h) (h .walk .rows) (joints-at h) (h .walk .rows) (place n) (left n) (standing n) (reached o)
-    (c .before .set-named .result) (c .before .set-named .ensures) (c .if2 .taken)
+    let q = c .before .before .before .before in
+    let t = block q in
+    let k = behind t in
+    let b = before-block t in
+    b .same
+    ∙ subst (BlockStepped (room (head k)) (job (head k)) (here t) (rows k) (q .pass-block .last .1 .1 .1 .0)) (c .before .step .given .1) (stepped q) (rest t) (joints k) (b .some-left) (b .asks)
 
 pub walk-spec : {M : Type 1} → statement M
 walk-spec =
@@ -330,27 +214,16 @@ walk-spec =
     (tie.spec
     Inv-walk
     μ-walk
-    walk-stretch-requires
     walk-holds
+    walk-stretch-requires
     enum-known-ended
     enum-known-ended-2
     enum-known-ended-3
     enum-known-ended-4
-    block-fault-requires
-    add-sets
-    shared-slice-read-sets
-    cast-sets
-    add-set-named
-    set-named-requires
-    add-emit-sets
-    emit-sets-requires
-    cast-weight
-    add-t36
-    mul-t41
-    add-t42
-    add-walk-stretch
-    sub-walk-stretch
-    walk-stretch-requires-2
+    pass-block-requires
+    enum-known-step
+    enum-known-step-2
+    sub-left
     walk-less
     walk-again
     same-length
@@ -368,8 +241,4 @@ walk-spec =
     same-length-10
     same-length-11
     same-length-12
-    returns-4
-    same-length-13
-    same-length-14
-    same-length-15
-    returns-5)
+    returns-4)

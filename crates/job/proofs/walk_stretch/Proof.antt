@@ -24,19 +24,19 @@ use Rattle.context.proofs.Laws.{next-sound, sums-sound}
 use Rattle.job.specs.declared.Place.{Place}
 use Rattle.job.specs.declared.Walked.the-variants.{Refused}
 use Rattle.job.specs.Walking.{walkFrom, Final}
-use Rattle.job.proofs.Faultless.{other-byte}
-use Rattle.job.proofs.Steps.{stop, early-none}
-use Rattle.job.proofs.Stands.{Stands}
+use Rattle.job.proofs.Faultless.{other-byte, known-single}
+use Rattle.job.proofs.Steps.{stop, Early, early-none}
+use Rattle.job.proofs.Stands.{Stands, standing}
 use Rattle.job.proofs.Ways.{Reached, pauses, ends-short, refused-early, out-of-range, absence, bytes-after, done, on}
 use Rattle.job.proofs.walk_stretch.Statement.{statement}
 use Rattle.job.proofs.walk_stretch.Tie as tie
 
 abbrev Inv-loop : tie.InvT-loop
-Inv-loop job budget given sums table rows room offset count written left storeys byte early operand-count place₀ at₀ place at =
+Inv-loop job budget given sums table rows room offset count written left storeys byte width early operand-count place₀ at₀ place at =
     Scanning job (byteAt job offset) (offset + 1) place at
 
 abbrev μ-loop : tie.MeasureT-loop
-μ-loop job budget given sums table rows room offset count written left storeys byte early operand-count place₀ at₀ place at =
+μ-loop job budget given sums table rows room offset count written left storeys byte width early operand-count place₀ at₀ place at =
     operand-count - place
 
 abbrev Inv-walk : tie.InvT-walk
@@ -86,24 +86,31 @@ positive n h = omega arith
 
 -- ---- a command that may be read
 
-abbrev head3 : tie.Else4 Inv-loop μ-loop Inv-walk μ-walk → tie.At-walk Inv-loop μ-loop Inv-walk μ-walk
+abbrev head3 : tie.Else3 Inv-loop μ-loop Inv-walk μ-walk → tie.At-walk Inv-loop μ-loop Inv-walk μ-walk
 head3 c = c .before .before .before .before .before .before
 
-reached : (c : tie.Else4 Inv-loop μ-loop Inv-walk μ-walk) → let w = head3 c in Reached (job-at w) (place-at w) (w .walk .left)
+early-at : (c : tie.Else3 Inv-loop μ-loop Inv-walk μ-walk) → let w = head3 c in Early (job-at w) (place-at w)
+early-at c = let w = head3 c in early-none (job-at w) (place-at w) (sym (c .before .early-fault .ensures) ∙ c .if3 .left)
+
+reached : (c : tie.Else3 Inv-loop μ-loop Inv-walk μ-walk) → let w = head3 c in Reached (job-at w) (place-at w) (w .walk .left)
 reached c =
     let w = head3 c in
     record {
       some-left = positive (w .walk .left) (c .before .before .before .before .before .if1 .left);
       inside = c .before .before .before .before .if2 .left;
-      single = other-byte (byteAt (job-at w) (w .walk .offset)) (c .before .before .if3 .left);
-      early = early-none (job-at w) (place-at w) (sym (c .before .early-fault .ensures) ∙ c .if4 .left);
+      single = known-single (byteAt (job-at w) (w .walk .offset)) (early-at c .known-byte);
+      early = early-at c;
     }
 
-abbrev faulty-head : tie.Then4 Inv-loop μ-loop Inv-walk μ-walk → tie.At-walk Inv-loop μ-loop Inv-walk μ-walk
-faulty-head c = c .before .before .before .before .before .before
+-- one at fault by its byte alone, or a block
+abbrev fault-head : tie.Then3 Inv-loop μ-loop Inv-walk μ-walk → tie.At-walk Inv-loop μ-loop Inv-walk μ-walk
+fault-head c = c .before .before .before .before .before .before
 
-abbrev block-head : tie.Then3 Inv-loop μ-loop Inv-walk μ-walk → tie.At-walk Inv-loop μ-loop Inv-walk μ-walk
-block-head c = c .before .before .before .before
+fault-left : (c : tie.Then3 Inv-loop μ-loop Inv-walk μ-walk) → 0 < fault-head c .walk .left
+fault-left c = positive (fault-head c .walk .left) (c .before .before .before .before .before .if1 .left)
+
+fault-inside : (c : tie.Then3 Inv-loop μ-loop Inv-walk μ-walk) → fault-head c .walk .offset < length (job-at (fault-head c))
+fault-inside c = c .before .before .before .before .if2 .left
 
 is-block : (byte : ℕ) → byte ≡ 11 → isBlock byte ≡ true
 is-block byte e = rw e
@@ -113,7 +120,7 @@ head4 c = head3 (c .before .before)
 
 -- ---- the inner loop
 
-abbrev loop3 : tie.At-loop Inv-loop μ-loop Inv-walk μ-walk → tie.Else4 Inv-loop μ-loop Inv-walk μ-walk
+abbrev loop3 : tie.At-loop Inv-loop μ-loop Inv-walk μ-walk → tie.Else3 Inv-loop μ-loop Inv-walk μ-walk
 loop3 l = l .before .before .before .before .before
 
 abbrev loop-head : tie.At-loop Inv-loop μ-loop Inv-walk μ-walk → tie.At-walk Inv-loop μ-loop Inv-walk μ-walk
@@ -193,8 +200,8 @@ at-next c = c .before .before .before
 abbrev at-emit : tie.After-emit Inv-loop μ-loop Inv-walk μ-walk → tie.After-hold-joint Inv-loop μ-loop Inv-walk μ-walk
 at-emit c = c .before .before .before .before .before .before .before
 
-abbrev emitted : tie.After-operands-width Inv-loop μ-loop Inv-walk μ-walk → tie.After-emit Inv-loop μ-loop Inv-walk μ-walk
-emitted c = c .before .before
+abbrev emitted : tie.After-rows Inv-loop μ-loop Inv-walk μ-walk → tie.After-emit Inv-loop μ-loop Inv-walk μ-walk
+emitted c = c .before
 
 module _ (c : tie.After-hold-joint Inv-loop μ-loop Inv-walk μ-walk) where
   abbrev next7 : tie.After-next Inv-loop μ-loop Inv-walk μ-walk
@@ -210,24 +217,26 @@ module _ (c : tie.After-hold-joint Inv-loop μ-loop Inv-walk μ-walk) where
   r7 = r4 (else4 six)
 
   sound-state : SoundState (next7 .next .result)
-  sound-state = subst SoundState (sym (next7 .next .ensures)) (next-sound (room-at w7) (w7 .walk .state) (r7 .read .result) (w7 .walk .inv .0 .state) (in-range-4 (else4 six)))
+  sound-state = subst SoundState (sym (next7 .next .ensures)) (next-sound (room-at w7) (w7 .walk .state) (r7 .read .result) (w7 .walk .inv .0 .asks .state) (in-range-4 (else4 six)))
 
   sound-sums : SoundSums (room-at w7) (c .hold-joint .last .1 .0)
-  sound-sums = subst (SoundSums (room-at w7)) (sym (c .hold-joint .ensures .1)) (sums-sound (room-at w7) (w7 .walk .sums) (r7 .read .result) (w7 .walk .inv .0 .sums) (in-range-4 (else4 six)))
+  sound-sums = subst (SoundSums (room-at w7)) (sym (c .hold-joint .ensures .1)) (sums-sound (room-at w7) (w7 .walk .sums) (r7 .read .result) (w7 .walk .inv .0 .asks .sums) (in-range-4 (else4 six)))
 
 walk-holds : tie.Need-walk-holds Inv-loop μ-loop Inv-walk μ-walk
 walk-holds c =
-    let s = c .before .before .before .before .before in
-    let a = s .pre .1 in (
-      record { same = refl; state = a .state; given = a .given; sums = a .sums; offset = a .offset; count = a .count; written = a .rows; given-kept = refl; sums-kept = refl; rows-kept = refl },
+    let s = c .before .before .before .before .before in (
+      standing (roomFor (length (s .args .rows .now))) (s .args .job .now) (record { given = s .args .given .now; sums = s .args .sums .now }) (s .args .rows .now) (s .args .start) (s .args .budget) (s .pre .1),
       omega arith,
     )
 
 shared-slice-read-byte : tie.Need-shared-slice-read-byte Inv-loop μ-loop Inv-walk μ-walk
 shared-slice-read-byte c = c .before .if2 .left
 
+operands-width-requires : tie.Need-operands-width-requires Inv-loop μ-loop Inv-walk μ-walk
+operands-width-requires c κs = tt
+
 early-fault-requires : tie.Need-early-fault-requires Inv-loop μ-loop Inv-walk μ-walk
-early-fault-requires c κs = c .before .before .if2 .left
+early-fault-requires c κs = (c .before .before .if2 .left, c .operands-width .ensures)
 
 read-requires : tie.Need-read-requires Inv-loop μ-loop Inv-walk μ-walk
 read-requires c κs = (refl, reached c .early .whole)
@@ -256,8 +265,8 @@ number-requires c κs = record { inside = fits-job c; bytes = rw (width-is c) (f
 in-range-requires : tie.Need-in-range-requires Inv-loop μ-loop Inv-walk μ-walk
 in-range-requires c κs = tt
 
-cast-t36 : tie.Need-cast-t36 Inv-loop μ-loop Inv-walk μ-walk
-cast-t36 c = omega (arith, turn-place (c .before))
+cast-t38 : tie.Need-cast-t38 Inv-loop μ-loop Inv-walk μ-walk
+cast-t38 c = omega (arith, turn-place (c .before))
 
 add-place : tie.Need-add-place Inv-loop μ-loop Inv-walk μ-walk
 add-place c = omega (arith, turn-place (c .before))
@@ -280,19 +289,19 @@ relation-names-requires : tie.Need-relation-names-requires Inv-loop μ-loop Inv-
 relation-names-requires c κs = tt
 
 absent-requires : tie.Need-absent-requires Inv-loop μ-loop Inv-walk μ-walk
-absent-requires c κs = w4 (c .before) .walk .inv .0 .given
+absent-requires c κs = w4 (c .before) .walk .inv .0 .asks .given
 
 add-if9 : tie.Need-add-if9 Inv-loop μ-loop Inv-walk μ-walk
 add-if9 c = let w = w6 (c .before) in omega (arith, reached (r4 (else4 (c .before)) .before) .inside, start-at w .good .0)
 
-add-t44 : tie.Need-add-t44 Inv-loop μ-loop Inv-walk μ-walk
-add-t44 c = omega (arith, c .if9 .taken, start-at (w6 (c .before .before)) .good .0)
+add-t46 : tie.Need-add-t46 Inv-loop μ-loop Inv-walk μ-walk
+add-t46 c = omega (arith, c .if9 .taken, start-at (w6 (c .before .before)) .good .0)
 
 next-requires : tie.Need-next-requires Inv-loop μ-loop Inv-walk μ-walk
-next-requires c κs = let s = c .before in record { state = w6 s .walk .inv .0 .state; in-range = in-range-4 (else4 s) }
+next-requires c κs = let s = c .before in record { state = w6 s .walk .inv .0 .asks .state; in-range = in-range-4 (else4 s) }
 
 hold-joint-requires : tie.Need-hold-joint-requires Inv-loop μ-loop Inv-walk μ-walk
-hold-joint-requires c κs = let w = w6 (else7 (c .before .before) .before) in (w .walk .inv .0 .given, w .walk .inv .0 .sums)
+hold-joint-requires c κs = let w = w6 (else7 (c .before .before) .before) in (w .walk .inv .0 .asks .given, w .walk .inv .0 .asks .sums)
 
 emit-requires : tie.Need-emit-requires Inv-loop μ-loop Inv-walk μ-walk
 emit-requires c κs =
@@ -305,21 +314,18 @@ emit-requires c κs =
           joints = subst (λ (room : Bool). SoundSums room (h .hold-joint .last .1 .0)) (sym (room-kept w)) (sound-sums h);
           in-range = in-range-4 (else4 (six h));
         },
-        (omega (arith, w .walk .inv .0 .written, w .walk .inv .0 .count), omega (arith, reached (r7 h .before) .inside, start-at w .good .0)),
+        (omega (arith, w .walk .inv .0 .asks .rows, w .walk .inv .0 .asks .count), omega (arith, reached (r7 h .before) .inside, start-at w .good .0)),
       ),
     )
 
 add-offset : tie.Need-add-offset Inv-loop μ-loop Inv-walk μ-walk
-add-offset c = let h = at-emit (c .before) in omega (arith, reached (r7 h .before) .inside, start-at (w7 h) .good .0)
-
-operands-width-requires : tie.Need-operands-width-requires Inv-loop μ-loop Inv-walk μ-walk
-operands-width-requires c κs = tt
+add-offset c = let h = at-emit (emitted c) in omega (arith, reached (r7 h .before) .inside, start-at (w7 h) .good .0)
 
 add-offset-2 : tie.Need-add-offset-2 Inv-loop μ-loop Inv-walk μ-walk
-add-offset-2 c = let h = at-emit (emitted c) in omega (arith, c .operands-width .ensures, reached (r7 h .before) .early .whole, start-at (w7 h) .good .0)
+add-offset-2 c = let h = at-emit (emitted c) in omega (arith, r7 h .before .before .before .operands-width .ensures, reached (r7 h .before) .early .whole, start-at (w7 h) .good .0)
 
 add-count : tie.Need-add-count Inv-loop μ-loop Inv-walk μ-walk
-add-count c = omega (arith, w7 (at-emit (emitted c)) .walk .inv .0 .count)
+add-count c = omega (arith, w7 (at-emit (emitted c)) .walk .inv .0 .asks .count)
 
 sub-left : tie.Need-sub-left Inv-loop μ-loop Inv-walk μ-walk
 sub-left c = reached (r7 (at-emit (emitted c)) .before) .some-left
@@ -337,8 +343,8 @@ walk-again c =
     let r = r7 h in (
       on (room-at w) (whole w) (job-at w) (lent-at w) (start-at w .args .rows .now) (joints-at w) (w .walk .rows) (place-at w) (w .walk .left) (w .walk .inv .0) (reached (r .before))
           (r .read .result) (r .read .ensures) (in-range-4 (else4 s)) (present s) (n .before .if8 .left)
-          (h .hold-joint .last .0) (h .hold-joint .last .1 .0) (e .emit .last .0) (w .walk .offset + 1 + c .operands-width .result) (e .emit .result) (n .next .result)
-          (h .hold-joint .ensures .0) (h .hold-joint .ensures .1) (n .next .ensures) (e .emit .ensures .1) (e .emit .ensures .0) (ap (λ (k : ℕ). w .walk .offset + 1 + k) (c .operands-width .ensures)),
+          (h .hold-joint .last .0) (h .hold-joint .last .1 .0) (e .emit .last .0) (w .walk .offset + 1 + r .before .before .before .operands-width .result) (e .emit .result) (n .next .result)
+          (h .hold-joint .ensures .0) (h .hold-joint .ensures .1) (n .next .ensures) (e .emit .ensures .1) (e .emit .ensures .0) (ap (λ (k : ℕ). w .walk .offset + 1 + k) (r .before .before .before .operands-width .ensures)),
       omega (arith, w .walk .inv .1),
     )
 
@@ -371,44 +377,42 @@ returns-2 c =
     ends-short (room-at w) (whole w) (job-at w) (lent-at w) (start-at w .args .rows .now) (joints-at w) (w .walk .rows) (place-at w) (w .walk .left) (w .walk .inv .0) (positive (w .walk .left) (c .before .if1 .left)) (c .if2 .taken)
 
 same-length-7 : tie.Need-same-length-7 Inv-loop μ-loop Inv-walk μ-walk
-same-length-7 c = block-head c .walk .inv .0 .given-kept
+same-length-7 c = fault-head (c .before) .walk .inv .0 .given-kept
 
 same-length-8 : tie.Need-same-length-8 Inv-loop μ-loop Inv-walk μ-walk
-same-length-8 c = block-head c .walk .inv .0 .sums-kept
+same-length-8 c = fault-head (c .before) .walk .inv .0 .sums-kept
 
 same-length-9 : tie.Need-same-length-9 Inv-loop μ-loop Inv-walk μ-walk
-same-length-9 c = block-head c .walk .inv .0 .rows-kept
+same-length-9 c = fault-head (c .before) .walk .inv .0 .rows-kept
 
 returns-3 : tie.Need-returns-3 Inv-loop μ-loop Inv-walk μ-walk
 returns-3 c =
-    let w = block-head c in
-    let i = c .before .before in
-    let s = w .walk .inv .0 in
+    let f = c .before in
+    let w = fault-head f in
     record {
-      same = s .same;
-      block = is-block (byteAt (job-at w) (w .walk .offset)) (c .if3 .taken);
-      inside = i .if2 .left;
-      some-left = positive (w .walk .left) (i .before .if1 .left);
+      same = w .walk .inv .0 .same;
+      block = is-block (byteAt (job-at w) (w .walk .offset)) (c .if4 .taken);
+      inside = fault-inside f;
+      some-left = fault-left f;
       fewer = w .walk .inv .1;
-      asks = record { state = s .state; given = s .given; sums = s .sums; offset = s .offset; count = s .count; rows = s .written };
+      asks = w .walk .inv .0 .asks;
     }
 
 same-length-10 : tie.Need-same-length-10 Inv-loop μ-loop Inv-walk μ-walk
-same-length-10 c = faulty-head c .walk .inv .0 .given-kept
+same-length-10 c = fault-head (c .before) .walk .inv .0 .given-kept
 
 same-length-11 : tie.Need-same-length-11 Inv-loop μ-loop Inv-walk μ-walk
-same-length-11 c = faulty-head c .walk .inv .0 .sums-kept
+same-length-11 c = fault-head (c .before) .walk .inv .0 .sums-kept
 
 same-length-12 : tie.Need-same-length-12 Inv-loop μ-loop Inv-walk μ-walk
-same-length-12 c = faulty-head c .walk .inv .0 .rows-kept
+same-length-12 c = fault-head (c .before) .walk .inv .0 .rows-kept
 
 returns-4 : tie.Need-returns-4 Inv-loop μ-loop Inv-walk μ-walk
 returns-4 c =
-    let w = faulty-head c in
     let f = c .before in
-    let i = f .before .before .before in
-    refused-early (room-at w) (whole w) (job-at w) (lent-at w) (start-at w .args .rows .now) (joints-at w) (w .walk .rows) (place-at w) (w .walk .left) (w .walk .inv .0) (positive (w .walk .left) (i .before .if1 .left)) (i .if2 .left)
-    (other-byte (byteAt (job-at w) (w .walk .offset)) (f .before .if3 .left)) (f .early-fault .result) (f .early-fault .ensures) (c .if4 .taken)
+    let w = fault-head f in
+    refused-early (room-at w) (whole w) (job-at w) (lent-at w) (start-at w .args .rows .now) (joints-at w) (w .walk .rows) (place-at w) (w .walk .left) (w .walk .inv .0) (fault-left f) (fault-inside f)
+    (other-byte (byteAt (job-at w) (w .walk .offset)) (c .if4 .left)) (f .before .early-fault .result) (f .before .early-fault .ensures) (f .if3 .taken)
 
 same-length-13 : tie.Need-same-length-13 Inv-loop μ-loop Inv-walk μ-walk
 same-length-13 c = (loop-head (turn (c .before .before .before))) .walk .inv .0 .given-kept
@@ -507,6 +511,7 @@ walk-stretch-spec =
     μ-walk
     walk-holds
     shared-slice-read-byte
+    operands-width-requires
     early-fault-requires
     read-requires
     command-in-range-requires
@@ -517,7 +522,7 @@ walk-stretch-spec =
     form-width-requires
     number-requires
     in-range-requires
-    cast-t36
+    cast-t38
     add-place
     add-at-2
     loop-less
@@ -525,12 +530,11 @@ walk-stretch-spec =
     relation-names-requires
     absent-requires
     add-if9
-    add-t44
+    add-t46
     next-requires
     hold-joint-requires
     emit-requires
     add-offset
-    operands-width-requires
     add-offset-2
     add-count
     sub-left
