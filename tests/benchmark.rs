@@ -1,7 +1,8 @@
 //! Times the proved library against the reference, both built for release, on the same jobs in one process with warm buffers; in
 //! writing commands and printing pages against plain Rust (tests/plain.rs), on the same values, each command behind the last.
-//! Arguments: rounds, of which the best counts; one call, where not all are wanted (run, size, fault, total, take-down, write, page), or
-//! walls: run for a wall of forty storeys beside forty walls of one; or blocks: storeys in blocks beside storeys singly.
+//! In run the library's one call stands beside the reference's two passes, which write the rows and then count them.
+//! Arguments: rounds, of which the best counts; one call, where not all are wanted (run, size, fault, take-down, write, page), or walls:
+//! run for a wall of forty storeys beside forty walls of one; or blocks: storeys in blocks beside storeys singly.
 //! Prints tables in markdown: ns a command (a row, a value, a job) of both, and the ratio.
 //! Assumes nothing. After `rt staticlib capacity_c`, built at the root of the repository by
 //! rustc --edition 2021 -O -L target/staticlib -o target/tests/benchmark tests/benchmark.rs.
@@ -33,13 +34,8 @@ const KINDS: [(&str, Mix); 8] = [
     ("even mix", Mix::EVEN),
 ];
 
-/// The calls on a job or its rows, and what their time is divided by.
-const CALLS: [(&str, &str, Both); 4] = [
-    ("run", "command", run),
-    ("size", "command", size),
-    ("fault", "command", fault),
-    ("total", "row", total),
-];
+/// The calls on a job.
+const CALLS: [(&str, Both); 3] = [("run", run), ("size", size), ("fault", fault)];
 
 /// The example whose first wall has forty storeys, and how often this wall is written.
 const TOWER: &[u8] = include_bytes!("../examples/tower.job");
@@ -91,18 +87,16 @@ fn main() {
         .map_or(40, |text| text.parse().expect("a number"));
     let picked = arguments.next();
     let wanted = |call: &str| picked.as_deref().is_none_or(|name| name == call);
-    let calls = CALLS.iter().map(|(call, ..)| *call);
+    let calls = CALLS.iter().map(|(call, _)| *call);
     if !calls
         .chain(["take-down", "write", "page", "walls", "blocks"])
         .any(wanted)
     {
-        eprintln!(
-            "the calls are run, size, fault, total, take-down, write, page; or walls, blocks"
-        );
+        eprintln!("the calls are run, size, fault, take-down, write, page; or walls, blocks");
         std::process::exit(2);
     }
-    for (call, unit, both) in CALLS.into_iter().filter(|(call, ..)| wanted(call)) {
-        println!("\n| {call}, ns a {unit} | commands | library | reference | ratio |\n|---|---:|---:|---:|---:|");
+    for (call, both) in CALLS.into_iter().filter(|(call, _)| wanted(call)) {
+        println!("\n| {call}, ns a command | commands | library | reference | ratio |\n|---|---:|---:|---:|---:|");
         for (kind, mix) in KINDS {
             for commands in COMMANDS {
                 let jobs = Jobs::new(commands, &mix);
@@ -142,7 +136,7 @@ fn main() {
     }
     if wanted("blocks") {
         println!("\n| blocks, ns a storey | storeys | library | reference | ratio |\n|---|---:|---:|---:|---:|");
-        for (call, _, both) in &CALLS[..3] {
+        for (call, both) in CALLS {
             for (name, count) in GROUPS {
                 print(
                     &format!("{call}, {name}"),
@@ -281,34 +275,6 @@ fn fault(rounds: usize, jobs: &Jobs) -> [f64; 2] {
         jobs.units,
         || jobs.each(|job| keep(library::fault(job))),
         || jobs.each(|job| keep(reference::fault(job))),
-    )
-}
-
-/// Of the rows of each job.
-fn total(rounds: usize, jobs: &Jobs) -> [f64; 2] {
-    let lists: Vec<(Vec<i64>, usize)> = jobs
-        .jobs
-        .iter()
-        .map(|job| {
-            let mut rows = jobs.rows.clone();
-            let count = reference::run(job, &mut rows).expect("an accepted job");
-            rows.truncate(count * reference::ROW);
-            (rows, count)
-        })
-        .collect();
-    race(
-        rounds,
-        lists.iter().map(|(_, count)| count).sum(),
-        || {
-            lists
-                .iter()
-                .for_each(|(rows, n)| keep(library::total(black_box(rows), *n)))
-        },
-        || {
-            lists
-                .iter()
-                .for_each(|(rows, n)| keep(reference::total(black_box(rows), *n)))
-        },
     )
 }
 

@@ -293,7 +293,7 @@ impl Blocked {
         let needed = Refusal {
             number: 9,
             offset: 0,
-            rows: expected.len(),
+            needed: expected.len(),
         };
         if ran != Err(needed) || short.iter().any(|&word| word != AS_LENT) {
             return Err(format!("a word short: {ran:?}\n{}", hexadecimal(job)));
@@ -362,7 +362,7 @@ fn rows(job: &[u8]) -> Result<Vec<Row>, String> {
     let ran = library::run(job, &mut words);
     let rows = words.as_chunks::<ROW>().0.to_vec();
     match ran {
-        Ok(count) if count == rows.len() => Ok(rows),
+        Ok(totals) if totals.rows == rows.len() => Ok(rows),
         _ => Err(format!("{ran:?} for {}", hexadecimal(job))),
     }
 }
@@ -372,10 +372,11 @@ fn refused(job: &[u8], fault: &Fault) -> Result<(), String> {
     let refusal = Refusal {
         number: fault.number as u8,
         offset: fault.offset,
-        rows: 0,
+        needed: 0,
     };
     let mut words = [AS_LENT; 2 * ROW];
-    let answers = [library::size(job), library::run(job, &mut words)];
+    let ran = library::run(job, &mut words);
+    let answers = [library::size(job), ran.map(|totals| totals.rows)];
     if answers == [Err(refusal); 2] && words == [AS_LENT; 2 * ROW] {
         return Ok(());
     }

@@ -1,20 +1,22 @@
-//! Compares the proved library with the reference on random jobs: size, fault, run, total and take-down, with guard words around
-//! the rows; writes each command of each accepted job again, and prints the page of its rows. Arguments: jobs, seed. Prints `N jobs
-//! agree`, or the first disagreement with its job in hexadecimal. A run of 100,000 jobs or more fails too when an operand was never at
-//! fault, when fewer than a tenth of the jobs are accepted ones with a joint revised between members, when no page had a form feed, or
-//! when one of the cases that `wanted` lists was met fewer than ten times.
+//! Compares the proved library with the reference on random jobs: size, fault, run and take-down, with guard words around the rows;
+//! counts the numbers of each run in the words that it wrote; writes each command of each accepted job again, and prints the page of its
+//! rows. Arguments: jobs, seed. Prints `N jobs agree`, or the first disagreement with its job in hexadecimal. A run of 100,000 jobs or
+//! more fails too when an operand was never at fault, when fewer than a tenth of the jobs are accepted ones with a joint revised between
+//! members, when no page had a form feed, or when one of the cases that `wanted` lists was met fewer than ten times.
 //! Assumes nothing. Built by tests/run.
 
 mod footings;
 mod generate;
 mod library;
+mod numbers;
 mod reference;
 mod rounds;
 mod shears;
 mod storeys;
 
 use generate::{Mix, Random, BLOCK, MOST_COMMANDS};
-use reference::{Fault, Refusal, ROW};
+use library::RunAnswer;
+use reference::{Fault, ROW};
 use rounds::{hexadecimal, Met, MANY};
 
 /// Words before and after the rows that a call is lent.
@@ -67,7 +69,7 @@ struct Tally {
     /// Pages of accepted jobs, and those with a form feed.
     printed: u64,
     feeds: u64,
-    /// Cases of the commands of accepted jobs, of flags refused and of blocks refused.
+    /// Cases of the commands of accepted jobs, of runs, of flags refused and of blocks refused.
     met: Met,
     /// By number, from 1 to 9.
     refused: [u64; 10],
@@ -86,6 +88,14 @@ impl Tally {
             self.met.add(flags_refused(job, fault));
         }
         self.met.add(storeys::refused(job, fault));
+    }
+
+    fn ran(&mut self, answer: &RunAnswer) {
+        self.accepted += u64::from(answer.accepted);
+        self.rows += answer.rows as u64;
+        if !answer.accepted {
+            self.refused[answer.number as usize] += 1;
+        }
     }
 
     /// The jobs by operand at fault, in the order of the file, for each command with operands.
@@ -185,22 +195,24 @@ fn compare(random: &mut Random, job: &[u8], tally: &mut Tally) -> Result<(), Str
     same("fault", &library::fault(job), &fault)?;
     tally.fault(job, &fault);
     tally.revised += u64::from(size.is_ok() && generate::revised_between_members(job));
-    if let Ok(rows) = size {
+    let mut rows = vec![0; ROW * size.unwrap_or(0)];
+    let _ = reference::run(job, &mut rows);
+    if size.is_ok() {
         tally.written += written_again(job)?;
         tally.printed += 1;
-        tally.feeds += u64::from(printed(job, rows)?);
-        tally.met.add(cases(job, rows));
+        tally.feeds += u64::from(printed(&rows)?);
+        tally.met.add(cases(job, &rows));
     }
-    let needed = size.unwrap_or(random.below(12) as usize);
-    let long = ROW * needed + random.below(20) as usize;
-    let short = random.below((ROW * needed).max(1) as u64) as usize;
-    runs(random, job, long, tally)?;
-    runs(random, job, ROW * needed, tally)?;
-    runs(random, job, short, tally)?;
-    if needed > 0 {
-        runs(random, job, ROW * needed - 1, tally)?;
+    let exact = ROW * size.unwrap_or(random.below(12) as usize);
+    let more = exact + 1 + random.below(20) as usize;
+    let fewer = random.below(exact.max(1) as u64) as usize;
+    let short = [fewer, exact.saturating_sub(1), 0];
+    let short = short.iter().filter(|&&words| words < exact);
+    for words in [exact, more].iter().chain(short) {
+        let answer = runs(random, job, *words)?;
+        tally.ran(&answer);
+        tally.met.add(numbers::cases(answer.number, *words, &rows));
     }
-    totals(random, job, needed)?;
     take_down(random)
 }
 
@@ -228,39 +240,32 @@ fn written_again(job: &[u8]) -> Result<u64, String> {
 
 /// Prints the rows of an accepted job into as many bytes as its page has: it is not refused, and is the reference's page. Tells whether
 /// it has a form feed.
-fn printed(job: &[u8], rows: usize) -> Result<bool, String> {
-    let mut words = vec![0; ROW * rows];
-    let _ = reference::run(job, &mut words);
+fn printed(words: &[i64]) -> Result<bool, String> {
+    let rows = words.len() / ROW;
     let mut expected = vec![0xA5; 81 * rows + rows.saturating_sub(1) / 50];
     let mut found = expected.clone();
-    let answer = library::page(&words, rows, &mut found);
+    let answer = library::page(words, rows, &mut found);
     same("number of the page", &answer.number, &0)?;
     same(
         "page",
         &answer,
-        &reference::page(&words, rows, &mut expected),
+        &reference::page(words, rows, &mut expected),
     )?;
     same("bytes of the page", &found, &expected)?;
     Ok(found.contains(&0x0C))
 }
 
-/// Runs a job on so many words that hold random values, with guards before and after them, in both implementations: every
-/// word of the stretch, guards too, must be the same.
-fn runs(random: &mut Random, job: &[u8], words: usize, tally: &mut Tally) -> Result<(), String> {
+/// Runs a job on so many words that hold random values, with guards before and after them, in both implementations: every field of
+/// the answer and every word of the stretch, guards too, must be the same. Gives the answer.
+fn runs(random: &mut Random, job: &[u8], words: usize) -> Result<RunAnswer, String> {
     let fill = random.next();
     let before: Vec<i64> = (0..words + 2 * GUARD)
         .map(|place| fill.wrapping_mul(2 * place as u64 + 1) as i64)
         .collect();
     let [mut found, mut expected] = [before.clone(), before.clone()];
-    let answer = library::run(job, &mut found[GUARD..GUARD + words]);
+    let answer = library::answer_of_run(job, &mut found[GUARD..GUARD + words]);
     let wanted = reference::run(job, &mut expected[GUARD..GUARD + words]);
-    same("run", &answer, &wanted)?;
-    let written = ROW * answer.unwrap_or(0);
-    if found[..GUARD] != before[..GUARD] || found[GUARD + written..] != before[GUARD + written..] {
-        return Err(format!(
-            "run on {words:x} words changed a word outside the rows"
-        ));
-    }
+    same("run", &answer, &RunAnswer::of(wanted))?;
     if let Some(place) = (0..found.len()).find(|&place| found[place] != expected[place]) {
         same(
             &format!("word {:x}", place - GUARD),
@@ -268,47 +273,29 @@ fn runs(random: &mut Random, job: &[u8], words: usize, tally: &mut Tally) -> Res
             &expected[place],
         )?;
     }
-    match answer {
-        Ok(rows) => {
-            tally.accepted += 1;
-            tally.rows += rows as u64;
-        }
-        Err(Refusal { number, .. }) => tally.refused[usize::from(number)] += 1,
-    }
-    Ok(())
+    sound(&answer, &before, &found)?;
+    Ok(answer)
 }
 
-/// Totals of a job's rows, of fewer, of one too many, and of rows with damaged verdicts.
-fn totals(random: &mut Random, job: &[u8], needed: usize) -> Result<(), String> {
-    let mut rows = vec![0; ROW * needed + random.below(8) as usize];
-    let _ = reference::run(job, &mut rows);
-    let fewer = random.below(needed as u64 + 1) as usize;
-    let far = random.next() as usize;
-    for n in [
-        needed,
-        needed + 1,
-        fewer,
-        far,
-        usize::MAX - random.below(9) as usize,
-    ] {
-        same(
-            "total",
-            &library::total(&rows, n),
-            &reference::total(&rows, n),
-        )?;
+/// What 02, No. 8, asks of every run, whatever the reference says: the three numbers are those of the rows written, 0 in a refusal; no
+/// word outside the rows is changed, in a refusal none; the rows needed are 0 but for 9.
+fn sound(answer: &RunAnswer, before: &[i64], after: &[i64]) -> Result<(), String> {
+    let rows = if answer.number == 0 { answer.rows } else { 0 };
+    if rows > (after.len() - 2 * GUARD) / ROW {
+        return Err(format!("{answer:x?} has more rows than there is room for"));
     }
-    for _ in 0..random.below(4) {
-        if needed > 0 {
-            let row = random.below(needed as u64) as usize;
-            let values = [-1, 0, 255, 256, i64::MIN, i64::MAX, random.next() as i64];
-            rows[ROW * row + 7] = values[random.below(7) as usize];
-        }
+    let end = GUARD + ROW * rows;
+    let counted = numbers::counted(&after[GUARD..end])?;
+    if (answer.rows, answer.failed, answer.checks) != counted {
+        return Err(format!("{answer:x?}, counted in the words {counted:x?}"));
     }
-    same(
-        "total",
-        &library::total(&rows, needed),
-        &reference::total(&rows, needed),
-    )
+    if after[..GUARD] != before[..GUARD] || after[end..] != before[end..] {
+        return Err(format!("{answer:x?}: a word outside the rows is changed"));
+    }
+    if answer.needed != 0 && answer.number != 9 {
+        return Err(format!("{answer:x?} needs rows"));
+    }
+    Ok(())
 }
 
 /// Take-down of random patterns, of patterns near the ends, and of other kinds.
@@ -348,9 +335,7 @@ fn take_down(random: &mut Random) -> Result<(), String> {
 // The cases.
 
 /// What the commands of an accepted job are cases of.
-fn cases(job: &[u8], rows: usize) -> Vec<String> {
-    let mut words = vec![0; ROW * rows];
-    let _ = reference::run(job, &mut words);
+fn cases(job: &[u8], words: &[i64]) -> Vec<String> {
     let rows = words.as_chunks::<ROW>().0;
     let q = u64::from(u16::from_be_bytes([job[1], job[2]]));
     let mut cases = storeys::accepted(job);
@@ -392,6 +377,7 @@ fn wanted() -> Vec<String> {
         shears::wanted(),
         footings::wanted(),
         storeys::wanted(),
+        numbers::wanted(),
         refusals,
     ]
     .concat()

@@ -150,7 +150,7 @@ fn refused_for(job: &[u8], offset: usize, operand: u32) -> Result<(), String> {
     let refusal = Refusal {
         number: 5,
         offset,
-        rows: 0,
+        needed: 0,
     };
     let fault = Fault {
         number: 5,
@@ -159,7 +159,8 @@ fn refused_for(job: &[u8], offset: usize, operand: u32) -> Result<(), String> {
         operand,
     };
     let mut words = [-1; ROW];
-    let answers = [library::size(job), library::run(job, &mut words)];
+    let ran = library::run(job, &mut words);
+    let answers = [library::size(job), ran.map(|totals| totals.rows)];
     let found = library::fault(job);
     if answers == [Err(refusal); 2] && found == fault && words == [-1; ROW] {
         return Ok(());
@@ -184,7 +185,7 @@ fn rows(job: &[u8]) -> Result<Vec<Row>, String> {
     let ran = library::run(job, &mut words);
     let rows = words.as_chunks::<ROW>().0.to_vec();
     match ran {
-        Ok(count) if count == rows.len() => Ok(rows),
+        Ok(totals) if totals.rows == rows.len() => Ok(rows),
         _ => Err(format!("{ran:?} for {}", hexadecimal(job))),
     }
 }

@@ -11,11 +11,10 @@ int main(int count, char **names) {
     size_t bytes = fread(job, 1, sizeof job, file);
     if (fgetc(file) != EOF) return puts("refused 10 0"), 1;
     if (ferror(file)) return perror(names[1]), 2;
-    struct eak_job_answer ran = eak_run(job, bytes, rows, sizeof rows / sizeof rows[0]);
-    if (!ran.accepted) return printf("refused %" PRIu32 " %zu\n", ran.number, ran.number == 9 ? ran.rows : ran.offset), 1;
+    struct eak_run_answer ran = eak_run(job, bytes, rows, sizeof rows / sizeof rows[0]);
+    if (!ran.accepted) return printf("refused %" PRIu32 " %zu\n", ran.number, ran.number == 9 ? ran.needed : ran.offset), 1;
     for (size_t i = 0; i < ran.rows * EAK_ROW_WORDS; i++)
         printf("%" PRId64 "%c", rows[i], i % EAK_ROW_WORDS == 7 ? '\n' : ' ');
-    struct eak_totals_answer totals = eak_total(rows, ran.rows * EAK_ROW_WORDS, ran.rows);
-    printf("rows %zu failed %" PRIu64 " checks %" PRIu64 "\n", ran.rows, totals.failed, totals.checks);
+    printf("rows %zu failed %" PRIu64 " checks %" PRIu64 "\n", ran.rows, ran.failed, ran.checks);
     return 0;
 }

@@ -1,6 +1,8 @@
 //! The proved library's calls, declared as in crates/capacity_c/include/eak_capacity.h, with the reference's answers.
 //! Assumes that libcapacity_c.a is linked.
 
+#![allow(dead_code)]
+
 pub mod write;
 
 use crate::reference::{Fault, Printed, Refusal, Totals};
@@ -13,21 +15,25 @@ struct JobAnswer {
     rows: usize,
 }
 
+/// The answer of run, with every field that the library gives.
+#[repr(C)]
+#[derive(Clone, Copy, Debug, PartialEq, Eq)]
+pub struct RunAnswer {
+    pub accepted: bool,
+    pub number: u32,
+    pub offset: usize,
+    pub rows: usize,
+    pub failed: u64,
+    pub checks: u64,
+    pub needed: usize,
+}
+
 #[repr(C)]
 struct FaultAnswer {
     number: u32,
     offset: usize,
     command: u32,
     operand: u32,
-}
-
-#[repr(C)]
-struct TotalsAnswer {
-    number: u32,
-    offset: usize,
-    rows: usize,
-    failed: u64,
-    checks: u64,
 }
 
 #[repr(C)]
@@ -49,8 +55,7 @@ struct PageAnswer {
 extern "C" {
     fn eak_size(job: *const u8, job_bytes: usize) -> JobAnswer;
     fn eak_fault(job: *const u8, job_bytes: usize) -> FaultAnswer;
-    fn eak_run(job: *const u8, job_bytes: usize, rows: *mut i64, row_words: usize) -> JobAnswer;
-    fn eak_total(rows: *const i64, row_words: usize, n: usize) -> TotalsAnswer;
+    fn eak_run(job: *const u8, job_bytes: usize, rows: *mut i64, row_words: usize) -> RunAnswer;
     fn eak_take_down(kind: u8, value: f32) -> SoilAnswer;
     fn eak_page(
         rows: *const i64,
@@ -61,13 +66,13 @@ extern "C" {
     ) -> PageAnswer;
 }
 
-/// The result, or the refusal with its number, offset and rows; no other field may be set.
+/// The result, or the refusal with its number, offset and rows needed; no other field may be set.
 fn answer<T>(
     result: T,
     unset: bool,
     number: u32,
     offset: usize,
-    rows: usize,
+    needed: usize,
 ) -> Result<T, Refusal> {
     assert!(
         unset,
@@ -79,21 +84,51 @@ fn answer<T>(
         Err(Refusal {
             number: number.try_into().expect("a refusal's number"),
             offset,
-            rows,
+            needed,
         })
     }
 }
 
-impl JobAnswer {
-    fn result(self) -> Result<usize, Refusal> {
-        let unset = self.accepted == (self.number == 0) && (!self.accepted || self.offset == 0);
-        answer(self.rows, unset, self.number, self.offset, self.rows)
+impl RunAnswer {
+    /// The answer that the library is to give where the reference gives this one.
+    pub fn of(result: Result<Totals, Refusal>) -> RunAnswer {
+        let refusal = result.err();
+        let totals = result.unwrap_or_default();
+        RunAnswer {
+            accepted: refusal.is_none(),
+            number: refusal.map_or(0, |refusal| u32::from(refusal.number)),
+            offset: refusal.map_or(0, |refusal| refusal.offset),
+            rows: totals.rows,
+            failed: totals.failed,
+            checks: totals.checks,
+            needed: refusal.map_or(0, |refusal| refusal.needed),
+        }
+    }
+
+    fn result(self) -> Result<Totals, Refusal> {
+        let totals = Totals {
+            rows: self.rows,
+            failed: self.failed,
+            checks: self.checks,
+        };
+        let unset = if self.number == 0 {
+            self.accepted && self.offset == 0 && self.needed == 0
+        } else {
+            !self.accepted && totals == Totals::default()
+        };
+        answer(totals, unset, self.number, self.offset, self.needed)
     }
 }
 
 #[inline(always)]
 pub fn size(job: &[u8]) -> Result<usize, Refusal> {
-    unsafe { eak_size(job.as_ptr(), job.len()) }.result()
+    let found = unsafe { eak_size(job.as_ptr(), job.len()) };
+    let unset = if found.number == 0 {
+        found.accepted && found.offset == 0
+    } else {
+        !found.accepted && found.rows == 0
+    };
+    answer(found.rows, unset, found.number, found.offset, 0)
 }
 
 #[inline(always)]
@@ -108,23 +143,13 @@ pub fn fault(job: &[u8]) -> Fault {
 }
 
 #[inline(always)]
-pub fn run(job: &[u8], rows: &mut [i64]) -> Result<usize, Refusal> {
-    unsafe { eak_run(job.as_ptr(), job.len(), rows.as_mut_ptr(), rows.len()) }.result()
+pub fn run(job: &[u8], rows: &mut [i64]) -> Result<Totals, Refusal> {
+    answer_of_run(job, rows).result()
 }
 
 #[inline(always)]
-pub fn total(rows: &[i64], n: usize) -> Result<Totals, Refusal> {
-    let found = unsafe { eak_total(rows.as_ptr(), rows.len(), n) };
-    let totals = Totals {
-        failed: found.failed as usize,
-        checks: found.checks as usize,
-    };
-    let unset = if found.number == 0 {
-        found.offset == 0 && found.rows == 0
-    } else {
-        totals == Totals::default()
-    };
-    answer(totals, unset, found.number, found.offset, found.rows)
+pub fn answer_of_run(job: &[u8], rows: &mut [i64]) -> RunAnswer {
+    unsafe { eak_run(job.as_ptr(), job.len(), rows.as_mut_ptr(), rows.len()) }
 }
 
 #[inline(always)]

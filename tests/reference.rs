@@ -1,5 +1,5 @@
-//! Document 01 with requests No. 1 to 3 and 5 to 7 of document 02 in plain Rust: size, run, total, take-down, writing a command and
-//! printing a page, written from the papers; and the operand at fault.
+//! Document 01 with requests No. 1 to 3 and 5 to 8 of document 02 in plain Rust: size, run, take-down, writing a command and printing
+//! a page, written from the papers; and the operand at fault.
 //! Assumes nothing of the job's bytes, the rows or the number of rows.
 
 mod blocks;
@@ -38,12 +38,12 @@ const BLOCK: u8 = 0x0B;
 /// Commands of a job, end not counted; a block counts as so many as it has sets.
 const MOST_COMMANDS: usize = 4096;
 
-/// Why a call gave no result: 01's number, the offset (or row) and the rows needed.
+/// Why a call gave no result: 01's number, the offset and, for 9, the rows needed; else these are 0.
 #[derive(Clone, Copy, Debug, PartialEq, Eq)]
 pub struct Refusal {
     pub number: u8,
     pub offset: usize,
-    pub rows: usize,
+    pub needed: usize,
 }
 
 impl Refusal {
@@ -51,15 +51,15 @@ impl Refusal {
         Refusal {
             number,
             offset,
-            rows: 0,
+            needed: 0,
         }
     }
 
-    fn short(rows: usize) -> Refusal {
+    fn short(needed: usize) -> Refusal {
         Refusal {
             number: 9,
             offset: 0,
-            rows,
+            needed,
         }
     }
 }
@@ -74,11 +74,12 @@ pub struct Fault {
     pub operand: u32,
 }
 
-/// Rows failed and checks failed.
+/// Rows; of these the rows failed; and their checks failed.
 #[derive(Clone, Copy, Debug, Default, PartialEq, Eq)]
 pub struct Totals {
-    pub failed: usize,
-    pub checks: usize,
+    pub rows: usize,
+    pub failed: u64,
+    pub checks: u64,
 }
 
 /// The number of rows of a job.
@@ -86,14 +87,15 @@ pub fn size(job: &[u8]) -> Result<usize, Refusal> {
     check(job)
 }
 
-/// Writes the rows of a job and gives their number; on a refusal nothing is written.
-pub fn run(job: &[u8], rows: &mut [i64]) -> Result<usize, Refusal> {
+/// Writes the rows of a job and then counts them; on a refusal nothing is written.
+pub fn run(job: &[u8], rows: &mut [i64]) -> Result<Totals, Refusal> {
     let needed = check(job)?;
     if rows.len() / ROW < needed {
         return Err(Refusal::short(needed));
     }
-    write(job, &mut rows.as_chunks_mut().0[..needed]);
-    Ok(needed)
+    let rows = &mut rows.as_chunks_mut().0[..needed];
+    write(job, rows);
+    Ok(count(rows))
 }
 
 /// Why a job is refused, and which operand of the command is at fault.
@@ -136,18 +138,17 @@ fn at_fault(bytes: &[u8]) -> Option<usize> {
     }
 }
 
-/// Rows failed and checks failed among the first `n` rows.
-pub fn total(rows: &[i64], n: usize) -> Result<Totals, Refusal> {
-    if rows.len() / ROW < n {
-        return Err(Refusal::short(n));
+/// How many rows there are, how many of them have a verdict that is not 0, and the ones in all verdicts.
+fn count(rows: &[[i64; ROW]]) -> Totals {
+    let mut totals = Totals {
+        rows: rows.len(),
+        ..Totals::default()
+    };
+    for row in rows {
+        totals.failed += u64::from(row[7] != 0);
+        totals.checks += u64::from(row[7].count_ones());
     }
-    let mut totals = Totals::default();
-    for (index, row) in rows.as_chunks::<ROW>().0[..n].iter().enumerate() {
-        let verdict = u8::try_from(row[7]).map_err(|_| Refusal::at(5, index))?;
-        totals.failed += usize::from(verdict != 0);
-        totals.checks += verdict.count_ones() as usize;
-    }
-    Ok(totals)
+    totals
 }
 
 /// A soil value taken down: tangent (kind 0) times 10,000, or kPa (kind 1) times 1,000.

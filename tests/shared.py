@@ -1,9 +1,9 @@
 """Calls the shared library by ctypes: shared.py LIBRARY HEADER JOB.., at the root of the repository.
 
-Runs every job by eak_size, eak_run and eak_total, writes the listing that they give and compares it with the file NAME.out beside
-NAME.job. Compares eak_fault with eak_size on each, and on those in docs/FORMAT.md, "Refusal 5 by operand", with the operand named
-there. Tries that words after the rows, and in a refusal every word, stay as they were; the version against the header's; calls
-with no elements; two soil values; and the job with the most rows.
+Runs every job by eak_size and eak_run, writes the listing that they give and compares it with the file NAME.out beside NAME.job; runs each
+accepted one again on a word too few. Compares eak_fault with eak_size on each, and on those in docs/FORMAT.md, "Refusal 5 by operand",
+with the operand named there. Tries that words after the rows, and in a refusal every word, stay as they were; the version and the structs
+of the answers against the header's; calls with no elements; two soil values; and the job with the most rows.
 Writes each command of each accepted job again by the eak_write calls, blocks too, and compares the bytes; the structs are read from the
 header, and docs/FORMAT.md must name the same members. Writes the longest block, which fills the commands of a job. Prints the rows of each
 accepted job, and 101 others, by eak_page and compares the page with the same rows set in columns here; the columns and the values that
@@ -41,11 +41,12 @@ def struct(*fields):
 
 
 JOB_ANSWER = struct("bool accepted", "u32 number", "size offset", "size rows")
+RUN_ANSWER = struct("bool accepted", "u32 number", "size offset", "size rows", "u64 failed", "u64 checks", "size needed")
 FAULT_ANSWER = struct("u32 number", "size offset", "u32 command", "u32 operand")
-TOTALS_ANSWER = struct("u32 number", "size offset", "size rows", "u64 failed", "u64 checks")
 SOIL_ANSWER = struct("u32 number", "u32 offset", "u32 value")
 WRITE_ANSWER = struct("u32 number", "size offset", "size bytes")
 PAGE_ANSWER = struct("u32 number", "size offset", "size rows", "size bytes")
+ANSWERS = {"job": JOB_ANSWER, "run": RUN_ANSWER, "fault": FAULT_ANSWER, "soil": SOIL_ANSWER, "write": WRITE_ANSWER, "page": PAGE_ANSWER}
 BYTES, ROWS, SIZE, LENT_BYTES = ctypes.c_char_p, ctypes.POINTER(ctypes.c_int64), ctypes.c_size_t, ctypes.c_void_p
 COUNT, SETS = ctypes.c_uint32, ctypes.POINTER(ctypes.c_uint32)
 
@@ -54,8 +55,7 @@ CALLS = {
     "eak_version": (ctypes.c_uint32, []),
     "eak_size": (JOB_ANSWER, [BYTES, SIZE]),
     "eak_fault": (FAULT_ANSWER, [BYTES, SIZE]),
-    "eak_run": (JOB_ANSWER, [BYTES, SIZE, ROWS, SIZE]),
-    "eak_total": (TOTALS_ANSWER, [ROWS, SIZE, SIZE]),
+    "eak_run": (RUN_ANSWER, [BYTES, SIZE, ROWS, SIZE]),
     "eak_take_down": (SOIL_ANSWER, [ctypes.c_uint8, ctypes.c_float]),
     "eak_write_end": (WRITE_ANSWER, [LENT_BYTES, SIZE]),
     "eak_write_block": (WRITE_ANSWER, [COUNT, SETS, SIZE, LENT_BYTES, SIZE]),
@@ -63,12 +63,15 @@ CALLS = {
 }
 
 
-def commands_of(header):
-    """The structs of the header with the values of a command, by their names, in the order of the commands' bytes from 01 on."""
-    types = {"uint32_t": "u32", "int32_t": "i32", "float": "f32"}
+def structs_of(header):
+    """The structs of the header by their names: those of the answers, and those with the values of a command, in the order of the
+    commands' bytes from 01 on."""
+    types = {"bool": "bool", "uint32_t": "u32", "uint64_t": "u64", "size_t": "size", "int32_t": "i32", "float": "f32"}
     bodies = re.findall(r"^struct eak_(\w+) \{\n(.*?)^\};", header, re.M | re.S)
-    return {name: struct(*[f"{types[kind]} {member}" for kind, member in re.findall(r"^    (\w+) (\w+);", body, re.M)])
-            for name, body in bodies if not name.endswith("_answer")}
+    structs = {name: struct(*[f"{types[kind]} {member}" for kind, member in re.findall(r"^    (\w+) (\w+);", body, re.M)])
+               for name, body in bodies}
+    answers = {name.removesuffix("_answer"): one for name, one in structs.items() if name.endswith("_answer")}
+    return answers, {name: one for name, one in structs.items() if not name.endswith("_answer")}
 
 
 def load(path, commands):
@@ -84,19 +87,31 @@ def values(answer):
     return tuple(getattr(answer, name) for name, _ in answer._fields_)
 
 
+def run(library, job, words):
+    """The answer of eak_run on so many words, and these words with one more, which was not lent."""
+    lent = (ctypes.c_int64 * (words + 1))(*[AS_LENT] * (words + 1))
+    return library.eak_run(job, len(job), lent, words), lent[:]
+
+
 def listing(library, job):
     """The listing of a job, and the words that the call was not to write."""
-    lent = (ctypes.c_int64 * LENT)(*[AS_LENT] * LENT)
-    size, ran = library.eak_size(job, len(job)), library.eak_run(job, len(job), lent, LENT)
-    assert ran.number == 9 or values(size) == values(ran), "eak_size and eak_run differ"
+    size, (ran, lent) = library.eak_size(job, len(job)), run(library, job, LENT)
+    assert ran.number == 9 or values(ran)[:4] == values(size), "eak_size and eak_run differ"
     assert ran.accepted == (ran.number == 0)
     if not ran.accepted:
-        return f"refused {ran.number} {ran.rows if ran.number == 9 else ran.offset}\n", lent[:]
+        assert (ran.rows, ran.failed, ran.checks) == (0, 0, 0), "a refusal with numbers"
+        return f"refused {ran.number} {ran.needed if ran.number == 9 else ran.offset}\n", lent
+    assert ran.needed == 0, "an accepted job that needs rows"
     end = WORDS * ran.rows
-    totals = library.eak_total(lent, end, ran.rows)
     lines = [" ".join(str(word) for word in lent[at:at + WORDS]) for at in range(0, end, WORDS)]
-    lines.append(f"rows {ran.rows} failed {totals.failed} checks {totals.checks}")
+    lines.append(f"rows {ran.rows} failed {ran.failed} checks {ran.checks}")
     return "\n".join(lines) + "\n", lent[end:]
+
+
+def run_on_too_few(library, what, job, rows, same):
+    """A word too few for so many rows."""
+    answer, lent = run(library, job, WORDS * rows - 1)
+    same(f"{what}, a word short", ((False, 9, 0, 0, 0, 0, rows), {AS_LENT}), (values(answer), set(lent)))
 
 
 def faulty(library, job):
@@ -211,10 +226,23 @@ def no_elements(library, same):
     one = (ctypes.c_int64 * 1)(AS_LENT)
     same("eak_size of no bytes", (False, 1, 0, 0), values(library.eak_size(b"", 0)))
     same("eak_fault of no bytes", (1, 0, 0, 0), values(library.eak_fault(b"", 0)))
-    same("eak_run of no bytes, no words", (False, 1, 0, 0), values(library.eak_run(b"", 0, one, 0)))
-    same("eak_total of no rows", (0, 0, 0, 0, 0), values(library.eak_total(one, 0, 0)))
-    same("eak_total of a row in no words", (9, 0, 1, 0, 0), values(library.eak_total(one, 0, 1)))
+    same("eak_run of no bytes, no words", (False, 1, 0, 0, 0, 0, 0), values(library.eak_run(b"", 0, one, 0)))
+    for what, job, expected in (("no rows", SETTINGS, (True, 0, 0, 0, 0, 0, 0)), ("a row", SETTINGS + BASE, (False, 9, 0, 0, 0, 0, 1))):
+        same(f"eak_run of {what}, no words", expected, values(library.eak_run(job + b"\0", len(job) + 1, one, 0)))
     same("the word after no words", AS_LENT, one[0])
+
+
+def most_rows(library, most, same):
+    """The job with the most rows, whose footings are all too light: verdict 16. A footing more is refused."""
+    start, footings = SETTINGS + SOIL, FOOTING * 4094
+    job = start + footings + b"\0"
+    same("the most rows", (True, 0, 0, most), values(library.eak_size(job, len(job))))
+    answer, lent = run(library, job, WORDS * most)
+    same("their run", ((True, 0, 0, most, most, most, 0), AS_LENT), (values(answer), lent[-1]))
+    same("their verdicts", {16}, set(lent[7::WORDS]))
+    run_on_too_few(library, "the most rows", job, most, same)
+    more = start + footings + FOOTING + b"\0"
+    same("a footing more", (False, 8, len(start + footings), 0), values(library.eak_size(more, len(more))))
 
 
 def refused_writes(library, commands, most, same):
@@ -256,7 +284,7 @@ def main(path, header, jobs):
     with open(header, encoding="utf-8") as file:
         header = file.read()
     defined = {name: int(value) for name, value in re.findall(r"^#define (EAK_\w+) (\d+)$", header, re.M)}
-    commands = commands_of(header)
+    answers, commands = structs_of(header)
     library, faults, operands = load(path, commands), [], named()
 
     def same(what, expected, found):
@@ -265,11 +293,8 @@ def main(path, header, jobs):
 
     same("the version", defined["EAK_VERSION"], library.eak_version())
     same("the words of a row", defined["EAK_ROW_WORDS"], WORDS)
-    start, footing = SETTINGS + SOIL, FOOTING * 4094
-    most = start + footing + b"\0"
-    same("the most rows", (True, 0, 0, defined["EAK_MOST_ROWS"]), values(library.eak_size(most, len(most))))
-    more = start + footing + FOOTING + b"\0"
-    same("a footing more", (False, 8, len(start + footing), 0), values(library.eak_size(more, len(more))))
+    same("the answers", {name: one._fields_ for name, one in answers.items()}, {name: one._fields_ for name, one in ANSWERS.items()})
+    most_rows(library, defined["EAK_MOST_ROWS"], same)
     no_elements(library, same)
     same("tangent 0.7", (0, 0, 6999), values(library.eak_take_down(0, 0.7)))
     same("tangent 2.5", (5, 0, 0), values(library.eak_take_down(0, 2.5)))
@@ -288,6 +313,7 @@ def main(path, header, jobs):
             same(f"{name}: operand at fault", operands.pop(name, 0), fault.operand)
             same(f"{name}: words as lent", {AS_LENT}, set(later))
             if fault.number == 0:
+                run_on_too_few(library, name, job, found.count("\n") - 1, same)
                 same(f"{name}: written again", job + b"\x5A", written(library, commands, job))
                 compare_page(library, f"{name}: page", [[int(word) for word in line.split()] for line in found.splitlines()[:-1]], same)
     same("the operands of jobs that were not run", {}, operands)

@@ -20,7 +20,6 @@ static size_t bytes, kept;
 static void size(void) { kept += eak_size(job, bytes).rows; }
 static void fault(void) { kept += eak_fault(job, bytes).number; }
 static void run(void) { kept += eak_run(job, bytes, rows, sizeof rows / sizeof rows[0]).rows; }
-static void total(void) { kept += eak_total(rows, sizeof rows / sizeof rows[0], 1024).rows; }
 static void page(void) { kept += eak_page(rows, sizeof rows / sizeof rows[0], 1024, printed, sizeof printed).bytes; }
 static void take_down(void) { kept += eak_take_down(0, 0.7f).value; }
 static void version(void) { kept += eak_version(); }
@@ -51,7 +50,6 @@ static const struct {
     {"eak_size", size},
     {"eak_fault", fault},
     {"eak_run", run},
-    {"eak_total", total},
     {"eak_page", page},
     {"eak_take_down", take_down},
     {"eak_version", version},

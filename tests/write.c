@@ -68,11 +68,10 @@ int main(int count, char **names) {
     write_job();
     FILE *file = count == 2 ? fopen(names[1], "wb") : NULL;
     if (count == 2 && (!file || fwrite(job, 1, bytes, file) != bytes || fclose(file))) return perror(names[1]), 2;
-    struct eak_job_answer ran = eak_run(job, bytes, rows, sizeof rows / sizeof rows[0]);
-    if (!ran.accepted) return printf("refused %" PRIu32 " %zu\n", ran.number, ran.number == 9 ? ran.rows : ran.offset), 1;
+    struct eak_run_answer ran = eak_run(job, bytes, rows, sizeof rows / sizeof rows[0]);
+    if (!ran.accepted) return printf("refused %" PRIu32 " %zu\n", ran.number, ran.number == 9 ? ran.needed : ran.offset), 1;
     for (size_t i = 0; i < ran.rows * EAK_ROW_WORDS; i++)
         printf("%" PRId64 "%c", rows[i], i % EAK_ROW_WORDS == 7 ? '\n' : ' ');
-    struct eak_totals_answer totals = eak_total(rows, ran.rows * EAK_ROW_WORDS, ran.rows);
-    printf("rows %zu failed %" PRIu64 " checks %" PRIu64 "\n", ran.rows, totals.failed, totals.checks);
+    printf("rows %zu failed %" PRIu64 " checks %" PRIu64 "\n", ran.rows, ran.failed, ran.checks);
     return 0;
 }

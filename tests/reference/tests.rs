@@ -1,9 +1,9 @@
-//! Tries the calls where a listing does not show them: short and long slices, the operand at fault, totals, take-down, writing,
-//! printing. Where q governs, at equality and on both sides of it; footings with each of their flags; and storeys in blocks.
+//! Tries the calls where a listing does not show them: short and long slices, the three numbers of a run, the operand at fault, take-down,
+//! writing, printing. Where q governs, at equality and on both sides of it; footings with each of their flags; and storeys in blocks.
 
 use super::members::Coefficient;
 use super::{at_fault, commands, layout, read_command, write_block, write_command};
-use super::{fault, run, size, take_down, total, Fault, Refusal, Totals};
+use super::{count, fault, run, size, take_down, Fault, Refusal, Totals};
 use super::{page, Command, Printed, Written};
 
 /// Settings 350, 140, 120, a detail that passes, one that does not with a lap at a wall base, end.
@@ -11,11 +11,20 @@ const JOB: [u8; 26] = [
     1, 1, 94, 0, 140, 0, 120, 10, 0, 0, 131, 0, 250, 3, 232, 0, 10, 2, 0, 132, 0, 250, 3, 232, 1, 0,
 ];
 
-fn refusal<T>(number: u8, offset: usize, rows: usize) -> Result<T, Refusal> {
+fn refusal<T>(number: u8, offset: usize, needed: usize) -> Result<T, Refusal> {
     Err(Refusal {
         number,
         offset,
+        needed,
+    })
+}
+
+/// The answer of a run that is not refused.
+fn ran(rows: usize, failed: u64, checks: u64) -> Result<Totals, Refusal> {
+    Ok(Totals {
         rows,
+        failed,
+        checks,
     })
 }
 
@@ -23,20 +32,52 @@ fn refusal<T>(number: u8, offset: usize, rows: usize) -> Result<T, Refusal> {
 fn run_writes_the_rows_and_nothing_else() {
     let mut words = [7; 20];
     assert_eq!(size(&JOB), Ok(2));
-    assert_eq!(run(&JOB, &mut words), Ok(2));
+    assert_eq!(run(&JOB, &mut words), ran(2, 1, 2));
     assert_eq!(words[..8], [7, 10, 131_000, 131_250, 0, 0, 0, 0]);
     assert_eq!(words[8..16], [16, 10, 132_000, 131_250, 0, 0, 0, 96]);
     assert_eq!(words[16..], [7; 4]);
-    assert_eq!(run(&JOB, &mut [0; 16]), Ok(2));
+    assert_eq!(run(&JOB, &mut [0; 16]), ran(2, 1, 2));
 }
 
 #[test]
 fn a_refusal_leaves_the_slice() {
     let mut words = [7; 15];
     assert_eq!(run(&JOB, &mut words), refusal(9, 0, 2));
+    assert_eq!(run(&JOB, &mut []), refusal(9, 0, 2));
     assert_eq!(run(&JOB[..25], &mut words), refusal(1, 25, 0));
     assert_eq!(run(&[], &mut words), refusal(1, 0, 0));
     assert_eq!(words, [7; 15]);
+}
+
+/// 02, No. 8. Other words than the verdicts, which are 0, 255, 0, 5 and 128 here, do not count.
+#[test]
+fn rows_failed_and_checks_failed_are_counted_in_the_verdicts() {
+    let rows = [0, 255, 0, 5, 128].map(|verdict| [9, 3, 7, 7, 7, 7, 7, verdict]);
+    let counts = [0, 1, 2, 3, 4, 5].map(|n| Ok(count(&rows[..n])));
+    let expected = [
+        ran(0, 0, 0),
+        ran(1, 0, 0),
+        ran(2, 1, 8),
+        ran(3, 1, 8),
+        ran(4, 2, 10),
+        ran(5, 3, 11),
+    ];
+    assert_eq!(counts, expected);
+}
+
+/// Settings alone; then two details, both passed, and both failed, one with a lap at a wall base.
+#[test]
+fn a_run_answers_its_three_numbers() {
+    let job = |details: &[&[u8]]| [&JOB[..7], &details.concat(), &[0]].concat();
+    let [passed, failed] = [&JOB[7..16], &JOB[16..25]];
+    let too_deep = command(10, &[(1, 132), (2, 250)]);
+    assert_eq!(run(&job(&[]), &mut []), ran(0, 0, 0));
+    assert_eq!(run(&job(&[passed; 2]), &mut [0; 16]), ran(2, 0, 0));
+    assert_eq!(run(&job(&[failed, &too_deep]), &mut [0; 16]), ran(2, 2, 3));
+    assert_eq!(
+        run(&job(&[failed, &too_deep]), &mut [0; 15]),
+        refusal(9, 0, 2)
+    );
 }
 
 #[test]
@@ -73,7 +114,7 @@ fn a_joint_given_again_holds_for_later_members() {
     let mut words = [0; 24];
     assert_eq!(
         run(&[&JOB[..7], &commands, &[0]].concat(), &mut words),
-        Ok(3)
+        ran(3, 3, 3)
     );
     assert_eq!(words[..8], [35, 5, 5600, -5600, 0, 0, 0, 1]);
     assert_eq!(words[8..16], [72, 5, 14_000, -14_000, 0, 0, 0, 1]);
@@ -82,11 +123,16 @@ fn a_joint_given_again_holds_for_later_members() {
 
 // Where q governs (02, No. 5); q is 350.
 
+/// Runs a job and gives the number of its rows.
+fn rows_of(job: &[u8], words: &mut [i64]) -> Result<usize, Refusal> {
+    run(job, words).map(|totals| totals.rows)
+}
+
 /// A row that is the only one of its job.
 fn row(commands: &[Vec<u8>]) -> [i64; 8] {
     let mut row = [0; 8];
     let job = [&JOB[..7], &commands.concat(), &[0]].concat();
-    assert_eq!(run(&job, &mut row), Ok(1));
+    assert_eq!(rows_of(&job, &mut row), Ok(1));
     row
 }
 
@@ -230,7 +276,7 @@ fn other_rows_keep_their_words() {
     ];
     let mut words = [0; 24];
     let job = [&JOB[..7], &commands.concat(), &[0]].concat();
-    assert_eq!(run(&job, &mut words), Ok(3));
+    assert_eq!(run(&job, &mut words), ran(3, 3, 5));
     assert_eq!(words[..8], [7, 6, 350, 0, 3, 7, 1, 129]);
     assert_eq!(words[8..16], [32, 7, 59, 0, 2, 0, 500, 3]);
     assert_eq!(words[16..], [71, 5, 140, -140, 0, 0, 0, 1]);
@@ -243,7 +289,7 @@ fn footing(set: &[(usize, u32)]) -> [[i64; 6]; 2] {
     let soil = command(8, &[(1, 0.5f32.to_bits())]);
     let job = [&JOB[..7], &soil, &command(9, set), &[0]].concat();
     let mut words = [0; 16];
-    assert_eq!(run(&job, &mut words), Ok(2));
+    assert_eq!(rows_of(&job, &mut words), Ok(2));
     [0, 8].map(|row| {
         assert_eq!(words[row..row + 2], [14, 9]);
         words[row + 2..row + 8].try_into().expect("six words")
@@ -346,7 +392,7 @@ fn a_block_has_the_rows_of_its_storeys() {
     ];
     let [singly, blocks] = [singly.concat(), blocks.concat()].map(|job| {
         let mut words = [0; 64];
-        assert_eq!((size(&job), run(&job, &mut words)), (Ok(8), Ok(8)));
+        assert_eq!((size(&job), rows_of(&job, &mut words)), (Ok(8), Ok(8)));
         assert_eq!(run(&job, &mut [0; 63]), refusal(9, 0, 8));
         words
     });
@@ -596,35 +642,6 @@ fn a_relation_counts_after_the_ranges() {
         Fault::default()
     );
     assert_eq!(operand(8, &[(0, 1), (1, 0x447A_0001)]), 1);
-}
-
-#[test]
-fn total_counts_rows_and_ones() {
-    let mut words = [0; 26];
-    words[7] = 255;
-    words[23] = 5;
-    assert_eq!(
-        total(&words, 3),
-        Ok(Totals {
-            failed: 2,
-            checks: 10
-        })
-    );
-    assert_eq!(total(&words, 0), Ok(Totals::default()));
-    assert_eq!(total(&words, 4), refusal(9, 0, 4));
-    assert_eq!(total(&words, usize::MAX), refusal(9, 0, usize::MAX));
-    words[15] = 256;
-    words[23] = -1;
-    assert_eq!(total(&words, 3), refusal(5, 1, 0));
-    words[15] = 0;
-    assert_eq!(total(&words, 3), refusal(5, 2, 0));
-    assert_eq!(
-        total(&words, 2),
-        Ok(Totals {
-            failed: 1,
-            checks: 8
-        })
-    );
 }
 
 /// The value by its bits: significand times 2 to the exponent, times the factor, down.

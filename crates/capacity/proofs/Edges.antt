@@ -5,6 +5,7 @@
 use mathlib.Core.Path.{_≡_, refl}
 use mathlib.Core.List.{List, [], _∷_, _++_}
 use Prim.Native.Nat.{ℕ, _*_}
+use lib.Count.{onesIn, ones}
 use lib.Ieee.{ofBits}
 use lib.IntN.{ℤ, pos, negsuc}
 use lib.ListN.{length, replicate}
@@ -37,8 +38,8 @@ use Rattle.rows.specs.Writing.{joined}
 use Rattle.blocks.specs.FileCommands.{fileCommandAt, widthAt}
 use Rattle.job.specs.Faults.{tooMany, misplaced, commandTests, testsAt}
 use Rattle.job.specs.Placed.{listedBy, listed, placed, allRows}
-use Rattle.job.specs.Answers.{rowsAnswer}
-use Rattle.capacity.specs.Calls.{runOf, rowsAfter}
+use Rattle.totals.specs.Rows.{verdictAt, rowFailed, checksOf, verdictSum, rowsFailed, checksFailed}
+use Rattle.capacity.specs.Calls.{ranAnswer, runOf, rowsAfter}
 
 -- ---- commands
 
@@ -139,9 +140,10 @@ beamRowWords upper lower strength verdict = pos 7 ∷ pos 4 ∷ upper ∷ lower 
 abbrev hingelessRowWords : ℕ → (upper lower : ℤ) → List ℤ
 hingelessRowWords offset upper lower = pos offset ∷ pos 5 ∷ upper ∷ lower ∷ pos 0 ∷ pos 0 ∷ pos 0 ∷ pos 1 ∷ []
 
--- on a slice of zeros with just room for them, run answers the number of these rows and writes them
-pub record Gives (job : List ℕ) (rows : List (List ℤ)) : Type 0 where
-  pub answer : runOf job (8 * length rows) ≡ rowsAnswer (length rows)
+-- on a slice of zeros with just room for them, run answers the number of these rows, so many failed and so many checks failed, and
+-- writes them
+pub record Gives (job : List ℕ) (rows : List (List ℤ)) (failed checks : ℕ) : Type 0 where
+  pub answer : runOf job (8 * length rows) ≡ ranAnswer (record { rows = length rows; failed = failed; checks = checks })
   pub words : rowsAfter job (replicate (8 * length rows) (pos 0)) ≡ joined rows
 
 -- ---- the jobs
@@ -216,6 +218,10 @@ detailEqual = settings ++ detail 0 0xaf 0x03 0xe8 0 ++ finish
 abbrev detailBeyond : List ℕ
 detailBeyond = settings ++ detail 0 0x8b 0x04 0xeb 0 ++ finish
 
+-- bits 32 and 64 of one row: the same detail with a lap at place 2
+abbrev detailBoth : List ℕ
+detailBoth = settings ++ detail 2 0x8b 0x04 0xeb 1 ++ finish
+
 -- bit 64: a lap at the places 0, 1 and 2, and no lap at place 2
 abbrev laps : List ℕ
 laps = settings ++ detail 0 0 0x03 0xe8 1 ++ detail 1 0 0x03 0xe8 1 ++ detail 2 0 0x03 0xe8 1 ++ detail 2 0 0x03 0xe8 0 ++ finish
@@ -231,34 +237,35 @@ jointAgain = settings ++ joint 0x64 ++ hingeless ++ joint 0 ++ hingeless ++ fini
 -- ---- their rows
 
 pub record Edges : Type 0 where
-  pub column-equal : Gives columnEqual (row 7 3 186667 186667 0 0 0 0 ∷ [])
-  pub column-beyond : Gives columnBeyond (row 7 3 186667 186666 0 0 0 1 ∷ [])
-  pub upper-equal : Gives upperEqual (beamRowWords (pos 150000) (negsuc 29999) 150000 0 ∷ [])
-  pub upper-beyond : Gives upperBeyond (beamRowWords (pos 150000) (negsuc 29999) 149999 1 ∷ [])
-  pub lower-equal : Gives lowerEqual (beamRowWords (pos 30000) (negsuc 149999) 150000 0 ∷ [])
-  pub lower-beyond : Gives lowerBeyond (beamRowWords (pos 30000) (negsuc 149999) 149999 1 ∷ [])
-  pub moment-equal : Gives momentEqual (row 7 6 2925000 3000000 5000000 5000000 0 0 ∷ row 32 7 325000 400000 325000 325000 1 0 ∷ [])
-  pub moment-beyond : Gives momentBeyond (row 7 6 2925000 3000000 5000000 5000000 0 0 ∷ row 32 7 325000 400000 325000 324999 1 2 ∷ [])
+  pub column-equal : Gives columnEqual (row 7 3 186667 186667 0 0 0 0 ∷ []) 0 0
+  pub column-beyond : Gives columnBeyond (row 7 3 186667 186666 0 0 0 1 ∷ []) 1 1
+  pub upper-equal : Gives upperEqual (beamRowWords (pos 150000) (negsuc 29999) 150000 0 ∷ []) 0 0
+  pub upper-beyond : Gives upperBeyond (beamRowWords (pos 150000) (negsuc 29999) 149999 1 ∷ []) 1 1
+  pub lower-equal : Gives lowerEqual (beamRowWords (pos 30000) (negsuc 149999) 150000 0 ∷ []) 0 0
+  pub lower-beyond : Gives lowerBeyond (beamRowWords (pos 30000) (negsuc 149999) 149999 1 ∷ []) 1 1
+  pub moment-equal : Gives momentEqual (row 7 6 2925000 3000000 5000000 5000000 0 0 ∷ row 32 7 325000 400000 325000 325000 1 0 ∷ []) 0 0
+  pub moment-beyond : Gives momentBeyond (row 7 6 2925000 3000000 5000000 5000000 0 0 ∷ row 32 7 325000 400000 325000 324999 1 2 ∷ []) 1 1
   -- both directions of a footing alike
-  pub third-equal : Gives thirdEqual (row 14 9 100000 1000 0 0 50000 0 ∷ row 14 9 100000 1000 0 0 50000 0 ∷ [])
-  pub third-beyond : Gives thirdBeyond (row 14 9 100000 1001 0 0 50000 4 ∷ row 14 9 100000 1001 0 0 50000 4 ∷ [])
-  pub quarter-equal : Gives quarterEqual (row 14 9 100000 0 1000 0 50000 0 ∷ row 14 9 100000 0 1000 0 50000 0 ∷ [])
-  pub quarter-beyond : Gives quarterBeyond (row 14 9 100000 0 1001 0 50000 4 ∷ row 14 9 100000 0 1001 0 50000 4 ∷ [])
-  pub half-below : Gives halfBelow (row 14 9 100000 999 0 0 50000 0 ∷ row 14 9 100000 999 0 0 50000 0 ∷ [])
-  pub half-equal : Gives halfEqual (row 14 9 100000 1000 0 0 50000 4 ∷ row 14 9 100000 1000 0 0 50000 4 ∷ [])
-  pub sliding-equal : Gives slidingEqual (row 14 9 100000 0 0 50000 50000 0 ∷ row 14 9 100000 0 0 50000 50000 0 ∷ [])
-  pub sliding-beyond : Gives slidingBeyond (row 14 9 100000 0 0 50001 50000 8 ∷ row 14 9 100000 0 0 50001 50000 8 ∷ [])
-  pub normal-least : Gives normalLeast (row 14 9 20000 0 0 0 10000 0 ∷ row 14 9 20000 0 0 0 10000 0 ∷ [])
-  pub normal-below : Gives normalBelow (row 14 9 19999 0 0 0 0 16 ∷ row 14 9 19999 0 0 0 0 16 ∷ [])
-  pub detail-equal : Gives detailEqual (row 7 10 175000 175000 0 0 0 0 ∷ [])
-  pub detail-beyond : Gives detailBeyond (row 7 10 175001 175000 0 0 0 32 ∷ [])
-  pub lap-at-2-only : Gives laps (row 7 10 0 175000 0 0 0 0 ∷ row 16 10 0 175000 0 0 0 0 ∷ row 25 10 0 175000 0 0 0 64 ∷ row 34 10 0 175000 0 0 0 0 ∷ [])
-  pub four-thicknesses : Gives lengths (row 7 6 2925000 3000000 5000000 5000000 0 128 ∷ row 32 6 2925000 3000000 5000000 5000000 0 0 ∷ [])
-  pub joint-again : Gives jointAgain (hingelessRowWords 21 (pos 5600) (negsuc 5599) ∷ hingelessRowWords 58 (pos 14000) (negsuc 13999) ∷ [])
+  pub third-equal : Gives thirdEqual (row 14 9 100000 1000 0 0 50000 0 ∷ row 14 9 100000 1000 0 0 50000 0 ∷ []) 0 0
+  pub third-beyond : Gives thirdBeyond (row 14 9 100000 1001 0 0 50000 4 ∷ row 14 9 100000 1001 0 0 50000 4 ∷ []) 2 2
+  pub quarter-equal : Gives quarterEqual (row 14 9 100000 0 1000 0 50000 0 ∷ row 14 9 100000 0 1000 0 50000 0 ∷ []) 0 0
+  pub quarter-beyond : Gives quarterBeyond (row 14 9 100000 0 1001 0 50000 4 ∷ row 14 9 100000 0 1001 0 50000 4 ∷ []) 2 2
+  pub half-below : Gives halfBelow (row 14 9 100000 999 0 0 50000 0 ∷ row 14 9 100000 999 0 0 50000 0 ∷ []) 0 0
+  pub half-equal : Gives halfEqual (row 14 9 100000 1000 0 0 50000 4 ∷ row 14 9 100000 1000 0 0 50000 4 ∷ []) 2 2
+  pub sliding-equal : Gives slidingEqual (row 14 9 100000 0 0 50000 50000 0 ∷ row 14 9 100000 0 0 50000 50000 0 ∷ []) 0 0
+  pub sliding-beyond : Gives slidingBeyond (row 14 9 100000 0 0 50001 50000 8 ∷ row 14 9 100000 0 0 50001 50000 8 ∷ []) 2 2
+  pub normal-least : Gives normalLeast (row 14 9 20000 0 0 0 10000 0 ∷ row 14 9 20000 0 0 0 10000 0 ∷ []) 0 0
+  pub normal-below : Gives normalBelow (row 14 9 19999 0 0 0 0 16 ∷ row 14 9 19999 0 0 0 0 16 ∷ []) 2 2
+  pub detail-equal : Gives detailEqual (row 7 10 175000 175000 0 0 0 0 ∷ []) 0 0
+  pub detail-beyond : Gives detailBeyond (row 7 10 175001 175000 0 0 0 32 ∷ []) 1 1
+  pub detail-both : Gives detailBoth (row 7 10 175001 175000 0 0 0 96 ∷ []) 1 2
+  pub lap-at-2-only : Gives laps (row 7 10 0 175000 0 0 0 0 ∷ row 16 10 0 175000 0 0 0 0 ∷ row 25 10 0 175000 0 0 0 64 ∷ row 34 10 0 175000 0 0 0 0 ∷ []) 1 1
+  pub four-thicknesses : Gives lengths (row 7 6 2925000 3000000 5000000 5000000 0 128 ∷ row 32 6 2925000 3000000 5000000 5000000 0 0 ∷ []) 1 1
+  pub joint-again : Gives jointAgain (hingelessRowWords 21 (pos 5600) (negsuc 5599) ∷ hingelessRowWords 58 (pos 14000) (negsuc 13999) ∷ []) 2 2
 
 pub edges : Edges
 unfolding
-    runOf rowsAfter placed listed listedBy allRows rowsOf rowsWith testsAt commandTests fileCommandAt widthAt tooMany misplaced known knownIn formsOf formsIn operandsWidth widthOfAll width commandAt commandOf readOperands number numberAfter inRange allInRange
+    runOf rowsAfter verdictAt rowFailed checksOf verdictSum rowsFailed checksFailed onesIn ones placed listed listedBy allRows rowsOf rowsWith testsAt commandTests fileCommandAt widthAt tooMany misplaced known knownIn formsOf formsIn operandsWidth widthOfAll width commandAt commandOf readOperands number numberAfter inRange allInRange
     formInRange related within withinSigned signed32 bits32 next absent columnRow beamRow hingelessRow detailRow baseRow baseRowFrom storeyRow storeyRowFrom footingRow baseResistance coefficientOf capGoverns smaller up down upℤ downℤ
     firstFrom leastRoot soilAllowed soilHolding valueAllowed kindKnown topOf factorOf allowed cut taken takeDown tangentOf accepted refused ofBits
 edges =
@@ -283,6 +290,7 @@ edges =
       normal-below = record { answer = refl; words = refl };
       detail-equal = record { answer = refl; words = refl };
       detail-beyond = record { answer = refl; words = refl };
+      detail-both = record { answer = refl; words = refl };
       lap-at-2-only = record { answer = refl; words = refl };
       four-thicknesses = record { answer = refl; words = refl };
       joint-again = record { answer = refl; words = refl };

@@ -1,4 +1,4 @@
--- Demand 3 for a whole job; what `run` gives twice and on a longer slice; how large its words are, and their page;
+-- Demand 3 for a whole job; the numbers of a run; what `run` gives twice and on a longer slice; how large its words are, and their page;
 -- joints given again; the words of a storey; where the cap governs; jobs and the calls that write; a block and its storeys singly; its
 -- verdicts at their bounds.
 mod Ranges
@@ -7,6 +7,7 @@ pub mod RowsSized
 mod Whole
 mod Written
 mod Runs
+pub mod Numbers
 mod RowRead
 pub mod SameWords
 pub mod PageOfRun

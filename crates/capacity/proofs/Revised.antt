@@ -23,7 +23,7 @@ use Rattle.rows.specs.Rows.{words, rowsWith, rowsOf}
 use Rattle.rows.specs.Writing.{joined}
 use Rattle.job.specs.Faults.{testsAt}
 use Rattle.job.specs.Placed.{Placed, Entry, placedAll, Job, refused, accepted, listed, placedWith, placed, rowsAt, allRows}
-use Rattle.job.specs.Answers.{rowsAnswer, sizeFrom, sizeOf, faultIn, faultOf}
+use Rattle.job.specs.Answers.{sizeFrom, sizeOf, faultIn, faultOf}
 use Rattle.job.specs.Earlier.{latestJoint, endingBy}
 use Rattle.job.proofs.PlacedCases.{placed-of}
 use Rattle.job.proofs.Faultless.{settings-there}
@@ -32,7 +32,8 @@ use Rattle.job.proofs.AcceptedBefore.{with7, accepted-before}
 use Rattle.job.proofs.Latest.{latest-joint}
 use Rattle.job.proofs.AlreadyMet.{met-rows-first, same-met-rows}
 use Rattle.job.proofs.RefusedLaws.{never-seven}
-use Rattle.capacity.specs.Calls.{tooShortAnswer, runFrom, runOf, rowsFrom, rowsAfter}
+use Rattle.totals.specs.declared.Totals.{Totals}
+use Rattle.capacity.specs.Calls.{totalsOf, ranAnswer, tooShortRun, runFrom, runOf, rowsFrom, rowsAfter}
 use Rattle.capacity.specs.DemandThree.{claimsOf, claimsWith}
 use Rattle.capacity.proofs.Written.{rows-eight, joined-length, joined-append}
 use Rattle.capacity.proofs.Runs.{differ}
@@ -149,8 +150,8 @@ module _ (job : List ℕ) where
 
   pub run-never-seven : (words : ℕ) → runOf job words .number ≡ 7 → ⊥
   unfolding runOf
-  run-never-seven words = never (λ j. runFrom j words .number) (λ n offset. refl) (λ ps. none-or-nine (leb (8 * length (allRows ps)) words) (length (allRows ps))) (placed job) refl
+  run-never-seven words = never (λ j. runFrom j words .number) (λ n offset. refl) (λ ps. none-or-nine (leb (8 * length (allRows ps)) words) (totalsOf (allRows ps))) (placed job) refl
     where
-      none-or-nine : (fits : Bool) (n : ℕ) → cond fits (rowsAnswer n) (tooShortAnswer n) .number ≡ 7 → ⊥
+      none-or-nine : (fits : Bool) (t : Totals) → cond fits (ranAnswer t) (tooShortRun (t .rows)) .number ≡ 7 → ⊥
       none-or-nine true n = other 0 tt
       none-or-nine false n = other 9 tt

@@ -1,34 +1,57 @@
--- The call `run` in 01's terms: "Run writes the rows and answers their number, leaving every later word as lent"; refusal 9 is
--- "too few words for the rows; answer carries the rows needed and offset 0".
+-- The call `run`. 01, "Calls": "Run writes the rows and answers their number, leaving every later word as lent". 02, No. 8: it is "one
+-- call whose answer has rows, rows failed and checks failed"; "On a refusal all three are zero and the slice keeps its words; refusal 9
+-- still carries the rows needed, as a number of its own."
 use mathlib.Core.Path.{_≡_}
-use mathlib.Core.Bool.{false, cond}
+use mathlib.Core.Bool.{Bool, true, false, cond}
 use mathlib.Core.List.{List, _++_}
 use Prim.Native.Nat.{ℕ, _*_, _≤_}
 use lib.Dec.{leb}
 use lib.IntN.{ℤ}
 use lib.ListN.{length, drop}
+use Rattle.totals.specs.declared.Totals.{Totals}
+use Rattle.totals.specs.Counted.{countedIn}
 use Rattle.rows.specs.Writing.{joined}
 use Rattle.job.specs.Placed.{Job, Placed, refused, accepted, placed, allRows}
-use Rattle.job.specs.Answers.{Answer, rowsAnswer, refusedAnswer}
 use Rattle.capacity.specs.declared.Ran.{Ran}
 use Rattle.capacity.specs.declared.Ran.the-variants.{Rows, Refused, TooShort}
 
--- refusal 9: offset 0 and the rows needed
-abbrev pub tooShortAnswer : ℕ → Answer
-tooShortAnswer n = record { accepted = false; number = 9; offset = 0; rows = n }
+-- whether the job is accepted and its rows written; the refusal's number and offset, 0 where there is none; the rows written, those
+-- failed, and the checks failed; and the rows needed
+pub record RunAnswer : Type 0 where
+  pub accepted : Bool
+  pub number : ℕ
+  pub offset : ℕ
+  pub rows : ℕ
+  pub failed : ℕ
+  pub checks : ℕ
+  pub needed : ℕ
 
--- the answer of run in the code, in 01's terms
-abbrev pub runAnswer : Ran → Answer
-runAnswer (Rows n) = rowsAnswer n
-runAnswer (Refused number offset) = refusedAnswer number offset
-runAnswer (TooShort n) = tooShortAnswer n
+abbrev pub ranAnswer : Totals → RunAnswer
+ranAnswer t = record { accepted = true; number = 0; offset = 0; rows = t .rows; failed = t .failed; checks = t .checks; needed = 0 }
+
+abbrev pub refusedRun : ℕ → ℕ → RunAnswer
+refusedRun number offset = record { accepted = false; number = number; offset = offset; rows = 0; failed = 0; checks = 0; needed = 0 }
+
+-- refusal 9, too few words for the rows: offset 0 and the rows needed
+abbrev pub tooShortRun : ℕ → RunAnswer
+tooShortRun n = record { accepted = false; number = 9; offset = 0; rows = 0; failed = 0; checks = 0; needed = n }
+
+-- the answer of run in the code, in these terms
+abbrev pub runAnswer : Ran → RunAnswer
+runAnswer (Rows t) = ranAnswer t
+runAnswer (Refused number offset) = refusedRun number offset
+runAnswer (TooShort n) = tooShortRun n
+
+-- the numbers of rows: how many they are; how many have a verdict that is not 0; and how many ones all verdicts have
+abbrev pub totalsOf : List (List ℤ) → Totals
+totalsOf rows = countedIn (joined rows) (length rows)
 
 -- what run answers, on a slice of so many words
-abbrev pub runFrom : Job → ℕ → Answer
-runFrom (refused number offset) words = refusedAnswer number offset
-runFrom (accepted ps) words = cond (leb (8 * length (allRows ps)) words) (rowsAnswer (length (allRows ps))) (tooShortAnswer (length (allRows ps)))
+abbrev pub runFrom : Job → ℕ → RunAnswer
+runFrom (refused number offset) words = refusedRun number offset
+runFrom (accepted ps) words = cond (leb (8 * length (allRows ps)) words) (ranAnswer (totalsOf (allRows ps))) (tooShortRun (length (allRows ps)))
 
-unfoldable pub runOf : List ℕ → ℕ → Answer
+unfoldable pub runOf : List ℕ → ℕ → RunAnswer
 unfolding placed
 runOf job words = runFrom (placed job) words
 

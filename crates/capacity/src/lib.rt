@@ -1,5 +1,5 @@
-// The calls: size, fault, run, total, take-down, write, write_block and page. None has a `requires`. 01, "Calls"; 02, No. 2, No. 3
-// and No. 7.
+// The calls: size, fault, run, take-down, write, write_block and page. None has a `requires`. 01, "Calls"; 02, No. 2, No. 3, No. 7 and
+// No. 8.
 // The papers leave no value of these calls free: each answer, each lent word and each lent byte is promised by equation.
 use format::Command;
 use job::FaultAnswer;
@@ -16,8 +16,6 @@ ghost use Rattle.cubes.specs.Cube.{LentCubes};
 ghost use Rattle.format.specs.Reading.{commandAt};
 ghost use Rattle.soil.specs.Answers.{answerOf};
 ghost use Rattle.soil.specs.Taken.{takeDown};
-ghost use Rattle.totals.specs.Answers.{totalAnswer};
-ghost use Rattle.totals.specs.Total.{totalOf};
 ghost use Rattle.job.specs.Answers.{rowCountAnswer, sizeOf, faultOf};
 ghost use Rattle.blocks.specs.FileCommands.{fileCommandAt};
 ghost use Rattle.writing.specs.Answers.{answerOf as writeAnswer, writeOf, bytesAfter};
@@ -28,8 +26,8 @@ ghost use Rattle.capacity.specs.DemandThree.{DemandThree};
 
 // The answer of run. `runAnswer` gives 01's number, offset and rows of each case.
 pub enum Ran {
-    // The rows written.
-    Rows(usize),
+    // The rows written, those failed, and the checks failed.
+    Rows(Totals),
     // Number and offset.
     Refused(u32, usize),
     // Refusal 9: the rows needed.
@@ -48,13 +46,6 @@ pub fn fault(job: &[u8]) -> FaultAnswer
     ensures { λ r. ⌜ r ≡ faultOf (now (job .entry)) ⌝ }
 {
     job::fault(job)
-}
-
-// Rows failed and checks failed of the first n rows.
-pub fn total(rows: &[i64], n: usize) -> Totals
-    ensures { λ r. ⌜ totalAnswer r ≡ totalOf (now (rows .entry)) n ⌝ }
-{
-    totals::total(rows, n)
 }
 
 // Take-down of one soil value.
@@ -121,7 +112,7 @@ fn write_rows(job: &[u8], storeys: bool, rows: &mut [i64])
     write_with(job, &none[..0], rows);
 }
 
-// The rows of a job, and their number.
+// The rows of a job, their number, the rows failed and the checks failed.
 pub fn run(job: &[u8], rows: &mut [i64]) -> Ran
     ensures answer { λ r. ⌜ runAnswer r ≡ runOf (now (job .entry)) (length (now (rows .entry))) ⌝ }
     ensures words { λ r. ⌜ now (rows .exit) ≡ rowsAfter (now (job .entry)) (now (rows .entry)) ⌝ }
@@ -137,7 +128,7 @@ pub fn run(job: &[u8], rows: &mut [i64]) -> Ran
                 return Ran::TooShort(n);
             }
             write_rows(job, walk.storeys, rows);
-            Ran::Rows(n)
+            Ran::Rows(totals::count(&*rows, n))
         }
     }
 }

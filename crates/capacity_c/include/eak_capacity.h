@@ -21,12 +21,12 @@
  *    2  unknown command
  *    3  bytes after end, at the first
  *    4  first command not settings, or settings again
- *    5  operand out of range, in a job and from the eak_write calls; from eak_write_block also too few words; from eak_total a verdict
- *       outside 0 to 255; from eak_take_down kind or value out of range
+ *    5  operand out of range, in a job and from the eak_write calls; from eak_write_block also too few words; from eak_take_down kind
+ *       or value out of range
  *    6  joint id not yet given, storey or block without wall base, footing without soil
  *    7  no longer given (before version 1.1.0: joint id given twice; a joint given again now replaces the earlier one)
  *    8  a 4,097th command, end not counted; a block that would pass 4,096, as it counts as many commands as it has sets
- *    9  too few words for the rows
+ *    9  too few words for the rows, from eak_run and eak_page
  *   11  too few bytes: for the command, from the eak_write calls; for the page, from eak_page (10 is the programs': input too long)
  *   12  a value too wide for its column, from eak_page; no row that eak_run writes has one
  */
@@ -41,10 +41,19 @@
 extern "C" {
 #endif
 
-/* The version that this header belongs to, 3.1.0: 10,000 times the major number, 100 times the minor one, and the patch. With the major
+/* The version that this header belongs to, 4.0.0: 10,000 times the major number, 100 times the minor one, and the patch. With the major
  * number a call is changed or removed, or words of the rows of accepted jobs change; with the minor one a call is added, or jobs are
- * accepted that were refused. eak_version answers the library's. */
-#define EAK_VERSION 30100
+ * accepted that were refused. eak_version answers the library's.
+ * From version 4.0.0 on, eak_run answers the rows failed and the checks failed beside the rows, in a struct of its own, and eak_total is
+ * gone, with its struct and its refusals. A program written for 3.1.0 is changed as follows:
+ *    - eak_run answers a struct eak_run_answer; struct eak_job_answer is the answer of eak_size alone.
+ *    - Leave out the call of eak_total and read `failed` and `checks` off the answer of eak_run.
+ *    - For refusal 9 the rows needed are in `needed`; `rows` is 0 then, as in every refusal.
+ *    - Compile it again: the struct is larger. A program compiled with the old header must not be linked with this library, which would
+ *      write beyond the struct that the program has.
+ * A program that totals fewer rows than a job has, or rows of its own making, counts them itself: a row failed where its word 7 is not
+ * 0, and its checks failed are the one bits of that word. Jobs, rows and the refusals of a job are as they were. */
+#define EAK_VERSION 40000
 
 /* The words of a row. Word 0 is the command's offset in the job, word 1 its byte, word 7 the verdict, 0 for passed; docs/FORMAT.md has
  * the others. A storey of a block has the offset of its set's first byte in word 0 and 7, the byte of a storey, in word 1.
@@ -78,12 +87,23 @@ extern "C" {
 /* A call takes less stack. */
 #define EAK_STACK_BYTES 16384
 
-/* The answer of eak_size and eak_run. */
+/* The answer of eak_size, which never refuses with 9. */
 struct eak_job_answer {
-    bool accepted;   /* the same as number == 0: the job is accepted and, of eak_run, its rows were written */
+    bool accepted;   /* the same as number == 0 */
+    uint32_t number; /* the refusal, 0 if accepted */
+    size_t offset;   /* the byte offset of the refusal in the job, 0 if accepted */
+    size_t rows;     /* the rows of an accepted job, 0 in a refusal */
+};
+
+/* The answer of eak_run. */
+struct eak_run_answer {
+    bool accepted;   /* the same as number == 0: the job is accepted and its rows were written */
     uint32_t number; /* the refusal, 0 if accepted */
     size_t offset;   /* the byte offset of the refusal in the job, 0 if accepted and for 9 */
-    size_t rows;     /* the rows of an accepted job; for 9 the rows needed; else 0 */
+    size_t rows;     /* the rows written, 0 in a refusal */
+    uint64_t failed; /* of these, the rows whose verdict is not 0; 0 in a refusal */
+    uint64_t checks; /* the checks failed: the one bits of all their verdicts; 0 in a refusal */
+    size_t needed;   /* for 9 the rows needed; else 0 */
 };
 
 /* The answer of eak_fault. */
@@ -93,15 +113,6 @@ struct eak_fault_answer {
     uint32_t command; /* the byte at that offset, for 3 the first byte after the end; 0 if accepted and where no byte is left */
     uint32_t operand; /* for 5 the operand at fault, counted from 0 in the order of docs/FORMAT.md, in a block its count as 0 and operand
                        * j of set i, both counted from 0, as 1 + 6 i + j; else 0 */
-};
-
-/* The answer of eak_total. */
-struct eak_totals_answer {
-    uint32_t number; /* the refusal, 9 or 5, or 0 */
-    size_t offset;   /* for 5 the first row whose verdict is out of range, counted from 0; else 0 */
-    size_t rows;     /* for 9 the rows asked for; else 0 */
-    uint64_t failed; /* the rows whose verdict is not 0; 0 in a refusal */
-    uint64_t checks; /* the checks failed: the one bits of all verdicts; 0 in a refusal */
 };
 
 /* The answer of eak_take_down. */
@@ -248,14 +259,12 @@ struct eak_job_answer eak_size(const uint8_t *job, size_t job_bytes);
  * block it is the count, or that of the first set at fault, found as in a storey. */
 struct eak_fault_answer eak_fault(const uint8_t *job, size_t job_bytes);
 
-/* Writes the rows of a job, EAK_ROW_WORDS words each, from rows[0] on, and answers their number. `row_words` counts words, not
- * rows or bytes; EAK_ROW_WORDS times the rows of eak_size is enough. Words after the last row stay as they were, and in a
- * refusal every word does. */
-struct eak_job_answer eak_run(const uint8_t *job, size_t job_bytes, int64_t *rows, size_t row_words);
-
-/* The rows failed and the checks failed of the first n rows, in a stretch of `row_words` words. Tries 9 (fewer than 8 times n
- * words) before 5. Reads the rows. */
-struct eak_totals_answer eak_total(const int64_t *rows, size_t row_words, size_t n);
+/* Writes the rows of a job, EAK_ROW_WORDS words each, from rows[0] on, and answers their number, the rows failed and the checks failed.
+ * `row_words` counts words, not rows or bytes; EAK_ROW_WORDS times the rows of eak_size is enough. Words after the last row stay as they
+ * were. It tries the refusals of eak_size, then
+ *    9  fewer words than EAK_ROW_WORDS times the rows of the job; `needed` has these rows
+ * In a refusal the three numbers are 0 and every word stays as it was. */
+struct eak_run_answer eak_run(const uint8_t *job, size_t job_bytes, int64_t *rows, size_t row_words);
 
 /* A soil value taken down to a whole number: kind 0, a tangent from 0 to 2.0, times 10,000; kind 1, a strength in kPa from 0 to
  * 1000.0, times 1,000. Any kind and any value may be given, a NaN too: another kind, a set sign bit (also that of -0.0), a NaN,
@@ -305,7 +314,7 @@ struct eak_write_answer eak_write_block(uint32_t count, const uint32_t *sets, si
  *   11  `room` is less than the page's bytes; exactly as many suffice
  * in this order, each over the whole page. Where `room` is larger, the bytes after the page stay as they were; in a refusal every byte
  * does. Words after the first n rows are not looked at. A page of rows that eak_run wrote is never refused with 12:
- *    struct eak_job_answer ran = eak_run(job, job_bytes, rows, row_words);
+ *    struct eak_run_answer ran = eak_run(job, job_bytes, rows, row_words);
  *    if (ran.accepted) answer = eak_page(rows, row_words, ran.rows, page, room);
  */
 struct eak_page_answer eak_page(const int64_t *rows, size_t row_words, size_t n, uint8_t *bytes, size_t room);

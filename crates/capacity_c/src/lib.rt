@@ -4,23 +4,20 @@ use capacity::Ran;
 use job::RowCount;
 use printing::Printed;
 use soil::TakeDown;
-use totals::Totals;
 ghost use mathlib.Core.Path.{_≡_};
-ghost use mathlib.Core.Bool.{true};
+ghost use mathlib.Core.Bool.{true, false};
 ghost use lib.ListN.{length};
 ghost use Rattle.soil.specs.Answers.{answerOf};
 ghost use Rattle.soil.specs.Taken.{takeDown};
-ghost use Rattle.totals.specs.Answers.{totalAnswer};
-ghost use Rattle.totals.specs.Total.{totalOf};
 ghost use Rattle.job.specs.Answers.{rowCountAnswer, sizeOf, faultOf};
 ghost use Rattle.printing.specs.Answers.{pageAnswer, pageOf, bytesAfter as pageAfter};
 ghost use Rattle.capacity.specs.Calls.{runAnswer, runOf, rowsAfter};
 ghost use Rattle.capacity.specs.DemandThree.{DemandThree};
-ghost use Rattle.capacity_c.specs.Exported.{jobAnswer, faultFound, totalsAnswer, soilAnswer, printedAnswer};
+ghost use Rattle.capacity_c.specs.Exported.{jobAnswer, ranAnswer, faultFound, soilAnswer, printedAnswer};
 
 mod writes; // writes.rt: the calls that write a command
 
-// The answer of size and of run.
+// The answer of size.
 #[repr(C)]
 pub struct JobAnswer {
     pub accepted: bool,
@@ -29,14 +26,16 @@ pub struct JobAnswer {
     pub rows: usize,
 }
 
-// The answer of total.
+// The answer of run.
 #[repr(C)]
-pub struct TotalsAnswer {
+pub struct RanAnswer {
+    pub accepted: bool,
     pub number: u32,
     pub offset: usize,
     pub rows: usize,
     pub failed: u64,
     pub checks: u64,
+    pub needed: usize,
 }
 
 // The answer of take-down.
@@ -84,56 +83,36 @@ fn counted(answer: RowCount) -> JobAnswer
     }
 }
 
-fn ran(answer: Ran) -> JobAnswer
-    ensures { λ r. ⌜ r ≡ jobAnswer (runAnswer answer) ⌝ }
+// A refusal of run: the three numbers are 0.
+fn not_run(number: u32, offset: usize, needed: usize) -> RanAnswer
+    ensures { λ r. ⌜ r ≡ record { accepted = false; number = number; offset = offset; rows = 0; failed = 0; checks = 0; needed = needed } ⌝ }
 {
-    match answer {
-        Ran::Rows(rows) => JobAnswer {
-            accepted: true,
-            number: 0,
-            offset: 0,
-            rows,
-        },
-        Ran::Refused(number, offset) => JobAnswer {
-            accepted: false,
-            number,
-            offset,
-            rows: 0,
-        },
-        Ran::TooShort(rows) => JobAnswer {
-            accepted: false,
-            number: 9,
-            offset: 0,
-            rows,
-        },
+    RanAnswer {
+        accepted: false,
+        number,
+        offset,
+        rows: 0,
+        failed: 0,
+        checks: 0,
+        needed,
     }
 }
 
-fn totalled(answer: Totals) -> TotalsAnswer
-    ensures { λ r. ⌜ r ≡ totalsAnswer (totalAnswer answer) ⌝ }
+fn ran(answer: Ran) -> RanAnswer
+    ensures { λ r. ⌜ r ≡ ranAnswer (runAnswer answer) ⌝ }
 {
     match answer {
-        Totals::Counted { failed, checks } => TotalsAnswer {
+        Ran::Rows(totals) => RanAnswer {
+            accepted: true,
             number: 0,
             offset: 0,
-            rows: 0,
-            failed,
-            checks,
+            rows: totals.rows,
+            failed: totals.failed,
+            checks: totals.checks,
+            needed: 0,
         },
-        Totals::TooShort(rows) => TotalsAnswer {
-            number: 9,
-            offset: 0,
-            rows,
-            failed: 0,
-            checks: 0,
-        },
-        Totals::BadVerdict(offset) => TotalsAnswer {
-            number: 5,
-            offset,
-            rows: 0,
-            failed: 0,
-            checks: 0,
-        },
+        Ran::Refused(number, offset) => not_run(number, offset, 0),
+        Ran::TooShort(needed) => not_run(9, 0, needed),
     }
 }
 
@@ -207,22 +186,14 @@ pub extern "C" fn eak_fault(job: &[u8]) -> FaultFound
     }
 }
 
-// The rows of a job, and their number.
+// The rows of a job, their number, the rows failed and the checks failed.
 #[no_mangle]
-pub extern "C" fn eak_run(job: &[u8], rows: &mut [i64]) -> JobAnswer
-    ensures answer { λ r. ⌜ r ≡ jobAnswer (runOf (now (job .entry)) (length (now (rows .entry)))) ⌝ }
+pub extern "C" fn eak_run(job: &[u8], rows: &mut [i64]) -> RanAnswer
+    ensures answer { λ r. ⌜ r ≡ ranAnswer (runOf (now (job .entry)) (length (now (rows .entry)))) ⌝ }
     ensures words { λ r. ⌜ now (rows .exit) ≡ rowsAfter (now (job .entry)) (now (rows .entry)) ⌝ }
     ensures demand3 { λ r. ⌜ (r .accepted ≡ true → DemandThree (now (job .entry)) (now (rows .exit))) ⌝ }
 {
     ran(capacity::run(job, rows))
-}
-
-// Rows failed and checks failed of the first n rows.
-#[no_mangle]
-pub extern "C" fn eak_total(rows: &[i64], n: usize) -> TotalsAnswer
-    ensures { λ r. ⌜ r ≡ totalsAnswer (totalOf (now (rows .entry)) n) ⌝ }
-{
-    totalled(capacity::total(rows, n))
 }
 
 // The page of the first n rows, written from the slice's first byte on.
@@ -245,7 +216,7 @@ pub extern "C" fn eak_take_down(kind: u8, value: f32) -> SoilAnswer
 // The version of these calls: 10,000 times the major number, 100 times the minor one, and the patch; the header's EAK_VERSION.
 #[no_mangle]
 pub extern "C" fn eak_version() -> u32
-    ensures { λ r. ⌜ r ≡ 30100 ⌝ }
+    ensures { λ r. ⌜ r ≡ 40000 ⌝ }
 {
-    30100
+    40000
 }

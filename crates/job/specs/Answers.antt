@@ -1,5 +1,5 @@
--- The answers of the calls in 01's terms: whether the job is accepted, the refusal's number and offset (0 where there is none),
--- and a number of rows ("Row counts are 0 in every refusal but 9"); and the operand at fault.
+-- The answers of size and fault in 01's terms: whether the job is accepted, the refusal's number and offset (0 where there is none),
+-- and a number of rows, 0 in a refusal, as size never refuses with 9; and the operand at fault.
 use mathlib.Core.Bool.{Bool, true, false}
 use Prim.Native.Nat.{ℕ}
 use lib.ListN.{length}

@@ -8,7 +8,7 @@ use lib.IntN.{ℤ}
 use lib.ListN.{length, drop, length-drop}
 use lib.Seq.{take-append-le, drop-append-le}
 use Rattle.text.specs.Lines.{rowLine, rowWords, rowsText, listingText}
-use Rattle.totals.proofs.Laws.{same-first-words}
+use Rattle.totals.proofs.Laws.{front-failed, front-checks}
 use Rattle.printing.specs.Page.{feedAfter, pageLine, pageText}
 use Rattle.report.specs.Listing.{rowsListing}
 use Rattle.report.specs.Page.{rowsText as textOf}
@@ -26,7 +26,7 @@ module _ (a b : List ℤ) where
 
   first-rows : (n : ℕ) → 8 * n ≤ length a → rowsListing (a ++ b) n ≡ rowsListing a n
   unfolding rowsListing listingText
-  first-rows n h = rw (same-first-words (a ++ b) a n (take-append-le (8 * n) a b h), rows-text n h)
+  first-rows n h = rw (front-failed a b n h, front-checks a b n h, rows-text n h)
 
   first-lines : (n : ℕ) → 8 * n ≤ length a → pageText (a ++ b) n ≡ pageText a n
   unfolding pageText

@@ -7,12 +7,11 @@ ghost use mathlib.Core.Bool.{false};
 ghost use Prim.Native.Nat.{_+_, _*_, _≤_};
 ghost use lib.ListN.{length};
 ghost use Rattle.slices.specs.Written.{WritesAtMost};
-ghost use Rattle.totals.specs.Answers.{totalAnswer};
 ghost use Rattle.job.specs.Placed.{placed};
 ghost use Rattle.printing.specs.Page.{pageText};
 ghost use Rattle.printing.specs.Answers.{pageAnswer, pageTooWide};
 ghost use Rattle.report.specs.Printed.{jobText, printedOf};
-ghost use Rattle.report.specs.Listing.{rowsListing, listingOf};
+ghost use Rattle.report.specs.Listing.{rowsListing, listingOf, TotalsOf};
 ghost use Rattle.report.specs.Page.{rowsText};
 
 // The greatest job, in bytes.
@@ -22,28 +21,6 @@ fn wide(number: u32) -> u64
     ensures { λ r. ⌜ r ≡ number ⌝ }
 {
     number as u64
-}
-
-// The rows failed; 0 where there are no totals.
-fn failed(totals: Totals) -> u64
-    ensures { λ r. ⌜ r ≡ totalAnswer totals .failed ⌝ }
-{
-    match totals {
-        Totals::Counted { failed, checks: _ } => failed,
-        Totals::TooShort(_) => 0,
-        Totals::BadVerdict(_) => 0,
-    }
-}
-
-// The checks failed; 0 where there are no totals.
-fn checks(totals: Totals) -> u64
-    ensures { λ r. ⌜ r ≡ totalAnswer totals .checks ⌝ }
-{
-    match totals {
-        Totals::Counted { failed: _, checks } => checks,
-        Totals::TooShort(_) => 0,
-        Totals::BadVerdict(_) => 0,
-    }
 }
 
 // The length of a page; 0 where none was printed.
@@ -58,13 +35,12 @@ fn page_length(printed: Printed) -> usize
     }
 }
 
-// The first n rows and their totals.
-fn put_rows(rows: &[i64], n: usize, out: &mut [u8]) -> usize
-    requires { ⌜ (8 * n ≤ length (now rows)) × (168 * n + 82 ≤ length (now out)) ⌝ }
-    ensures { λ r. ⌜ WritesAtMost (168 * n + 82) (now (out .entry)) 0 (rowsListing (now (rows .entry)) n) (now (out .exit)) r ⌝ }
+// The rows of these totals, and the totals.
+fn put_rows(rows: &[i64], totals: Totals, out: &mut [u8]) -> usize
+    requires { ⌜ (8 * totals .rows ≤ length (now rows)) × TotalsOf (now rows) totals × (168 * totals .rows + 82 ≤ length (now out)) ⌝ }
+    ensures { λ r. ⌜ WritesAtMost (168 * totals .rows + 82) (now (out .entry)) 0 (rowsListing (now (rows .entry)) (totals .rows)) (now (out .exit)) r ⌝ }
 {
-    let totals = capacity::total(rows, n);
-    text::put_listing(out, 0, rows, n, failed(totals), checks(totals))
+    text::put_listing(out, 0, rows, totals.rows, totals.failed, totals.checks)
 }
 
 // The page of the first n rows.
@@ -75,15 +51,15 @@ fn put_page(rows: &[i64], n: usize, out: &mut [u8]) -> usize
     page_length(capacity::page(rows, n, out))
 }
 
-// The first n rows, as a page or as a listing.
-fn put_text(rows: &[i64], n: usize, paged: bool, out: &mut [u8]) -> usize
-    requires { ⌜ (8 * n ≤ length (now rows)) × (pageTooWide (now rows) n ≡ false) × (168 * n + 82 ≤ length (now out)) ⌝ }
-    ensures { λ r. ⌜ WritesAtMost (168 * n + 82) (now (out .entry)) 0 (rowsText paged (now (rows .entry)) n) (now (out .exit)) r ⌝ }
+// The rows of these totals, as a page or as a listing.
+fn put_text(rows: &[i64], totals: Totals, paged: bool, out: &mut [u8]) -> usize
+    requires { ⌜ (8 * totals .rows ≤ length (now rows)) × TotalsOf (now rows) totals × (pageTooWide (now rows) (totals .rows) ≡ false) × (168 * totals .rows + 82 ≤ length (now out)) ⌝ }
+    ensures { λ r. ⌜ WritesAtMost (168 * totals .rows + 82) (now (out .entry)) 0 (rowsText paged (now (rows .entry)) (totals .rows)) (now (out .exit)) r ⌝ }
 {
     if paged {
-        put_page(rows, n, out)
+        put_page(rows, totals.rows, out)
     } else {
-        put_rows(rows, n, out)
+        put_rows(rows, totals, out)
     }
 }
 
@@ -94,7 +70,7 @@ fn put_job(job: &[u8], rows: &mut [i64; 8192], paged: bool, out: &mut [u8]) -> u
 {
     let ran = capacity::run(job, rows);
     match ran {
-        Ran::Rows(n) => put_text(rows, n, paged, out),
+        Ran::Rows(totals) => put_text(rows, totals, paged, out),
         Ran::Refused(number, offset) => text::put_refused(out, 0, wide(number), offset as u64),
         Ran::TooShort(n) => text::put_refused(out, 0, 9, n as u64),
     }

@@ -1,13 +1,12 @@
 -- Sums over the verdicts of rows: their bounds, and what they depend on. Assumes nothing.
 use mathlib.Core.Path.{_≡_, refl, ap₂}
-use mathlib.Core.Bool.{true}
 use mathlib.Core.List.{List}
 use Prim.Native.Nat.{ℕ, zero, suc, _+_, _*_, _≤_, _<_, zero-le}
 use native.Mathlib.Nat.{le-refl}
 use native.Mathlib.Omega.{arith}
 use lib.IntN.{ℤ}
-use Rattle.totals.specs.Rows.{verdictAt, goodVerdict, rowFailed, checksOf, verdictSum, rowsFailed, checksFailed}
-use Rattle.totals.proofs.Verdicts.{row-failed-le, checks-le, row-has-check}
+use Rattle.totals.specs.Rows.{verdictAt, rowFailed, checksOf, verdictSum, rowsFailed, checksFailed}
+use Rattle.totals.proofs.Verdicts.{row-failed-le, row-has-check, row-without-check}
 
 -- at most k for each row
 sum-le : (count : ℤ → ℕ) (k : ℕ) (rows : List ℤ) (n : ℕ) → ((i : ℕ) → i < n → count (verdictAt rows i) ≤ k) → verdictSum count rows n ≤ k * n
@@ -32,10 +31,13 @@ pub rows-failed-le : (rows : List ℤ) (n : ℕ) → rowsFailed rows n ≤ n
 unfolding rowsFailed
 rows-failed-le rows n = omega (arith, sum-le rowFailed 1 rows n (λ i l. row-failed-le (verdictAt rows i)))
 
-pub checks-failed-le : (rows : List ℤ) (n : ℕ) → ((i : ℕ) → i < n → goodVerdict (verdictAt rows i) ≡ true) → checksFailed rows n ≤ 8 * n
-unfolding checksFailed
-checks-failed-le rows n good = sum-le checksOf 8 rows n (λ i l. checks-le (verdictAt rows i) (good i l))
-
 pub rows-have-checks : (rows : List ℤ) (n : ℕ) → rowsFailed rows n ≤ checksFailed rows n
 unfolding rowsFailed checksFailed
 rows-have-checks rows n = sum-mono rowFailed checksOf row-has-check rows n
+
+-- where no row failed, no check did
+pub no-checks : (rows : List ℤ) (n : ℕ) → rowsFailed rows n ≡ 0 → checksFailed rows n ≡ 0
+unfolding rowsFailed checksFailed verdictSum
+no-checks rows zero e = refl
+no-checks rows (suc n) e =
+    omega (arith, no-checks rows n (omega (arith, e)), row-without-check (verdictAt rows n) (omega (arith, e)))

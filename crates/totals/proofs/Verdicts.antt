@@ -1,29 +1,23 @@
--- One verdict: the tests of its range, and how many checks it can hold. Assumes nothing.
+-- One verdict: its range, and how many checks it can hold. Assumes nothing.
 use mathlib.Core.Path.{_≡_, refl, sym, ap}
-use mathlib.Core.Bool.{true, false, true≢false}
+use mathlib.Core.Bool.{true, true≢false}
 use mathlib.Core.Logic.{_⊎_, inl, inr}
 use Prim.Native.Nat.{ℕ, zero, suc, _*_, _/_, _≤_, _<_, zero-le}
 use native.Mathlib.Nat.{eq-zero-or-pos, div-add-mod', le-refl, zero-lt-suc, not-suc-le-zero, le-trans}
 use native.Mathlib.Omega.{arith}
-use borrow.Author.Tests.{leb-true, ltb-true}
+use borrow.Author.Tests.{le-leb, leb-true}
 use lib.Arith.{half-le}
-use lib.Count.{ones, ones-le, ones-step}
+use lib.Count.{onesIn, ones, ones-le, ones-step}
 use lib.Dec.{T}
 use lib.IntN.{ℤ, pos, negsuc, natAbs}
-use lib.Signed.{ltZ, leZ, nonNeg}
+use lib.Signed.{nonNeg}
 use Rattle.totals.specs.Rows.{goodVerdict, rowFailed, checksOf}
 
 -- ---- the range
 
-pub negative-bad : (v : ℤ) → ltZ v (pos 0) ≡ true → goodVerdict v ≡ false
+pub number-good : (v : ℕ) → v ≤ 255 → goodVerdict (pos v) ≡ true
 unfolding goodVerdict
-negative-bad (pos v) e = absurd (not-suc-le-zero (ltb-true v 0 e))
-negative-bad (negsuc v) e = refl
-
-pub top-good : (v : ℤ) → ltZ v (pos 0) ≡ false → leZ v (pos 255) ≡ goodVerdict v
-unfolding goodVerdict
-top-good (pos v) e = refl
-top-good (negsuc v) e = absurd (true≢false e)
+number-good v h = le-leb v 255 h
 
 pub good-not-negative : (v : ℤ) → goodVerdict v ≡ true → T (nonNeg v)
 unfolding goodVerdict
@@ -76,3 +70,10 @@ unfolding rowFailed checksOf
 row-has-check (pos zero) = zero-le
 row-has-check (pos (suc v)) = ones-some (suc v) (suc v) (le-refl (suc v)) (zero-lt-suc v)
 row-has-check (negsuc v) = ones-some (suc v) (suc v) (le-refl (suc v)) (zero-lt-suc v)
+
+-- a row that passed has none
+pub row-without-check : (v : ℤ) → rowFailed v ≡ 0 → checksOf v ≡ 0
+unfolding rowFailed checksOf onesIn ones
+row-without-check (pos zero) e = refl
+row-without-check (pos (suc v)) e = omega (arith, e)
+row-without-check (negsuc v) e = omega (arith, e)

@@ -1,4 +1,3 @@
--- Total in the terms of 01: the verdicts of rows, the answer, and what total answers. Assumes nothing.
+-- The verdicts of rows and their totals. Assumes nothing.
 pub mod Rows
-pub mod Answers
-pub mod Total
+pub mod Counted

@@ -1,6 +1,6 @@
 -- The verdicts of rows, and what is counted in them. 01, "Rows and verdict bits": a row is eight words, and "word 7 the verdict,
--- 0 for passed". Assumes nothing.
-use mathlib.Core.Bool.{Bool, false, cond}
+-- 0 for passed"; 01, "Calls": "the rows failed and the checks failed, the latter the ones counted in the verdicts". Assumes nothing.
+use mathlib.Core.Bool.{Bool, false}
 use mathlib.Core.List.{List}
 use Prim.Native.Nat.{ℕ, zero, suc, _+_, _*_}
 use lib.Count.{ones}
@@ -40,14 +40,3 @@ rowsFailed rows n = verdictSum rowFailed rows n
 -- the checks failed, of the first n rows: "the ones counted in the verdicts"
 unfoldable pub checksFailed : List ℤ → ℕ → ℕ
 checksFailed rows n = verdictSum checksOf rows n
-
--- of `left` rows from row i on, the first whose verdict is outside 0 to 255; the row after them where there is none
-unfoldable pub firstBadFrom : List ℤ → ℕ → ℕ → ℕ
-unfolding verdictAt goodVerdict
-firstBadFrom rows i zero = i
-firstBadFrom rows i (suc left) = cond (goodVerdict (verdictAt rows i)) (firstBadFrom rows (suc i) left) i
-
--- the same, of the first n rows: n where there is none
-unfoldable pub firstBad : List ℤ → ℕ → ℕ
-unfolding firstBadFrom
-firstBad rows n = firstBadFrom rows 0 n

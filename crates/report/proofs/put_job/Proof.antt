@@ -6,10 +6,10 @@ use native.Mathlib.Omega.{arith}
 use lib.IntN.{ℤ}
 use lib.ListN.{length}
 use Rattle.job.specs.Placed.{placed}
-use Rattle.job.specs.Answers.{rowsAnswer}
 use Rattle.printing.specs.Answers.{pageTooWide}
-use Rattle.capacity.specs.Calls.{runAnswer, runOf}
-use Rattle.report.proofs.Answers.{Shown, refused-text, short-text, rows-text, narrow-rows, at-most}
+use Rattle.capacity.specs.Calls.{ranAnswer, runAnswer, runOf}
+use Rattle.report.specs.Listing.{TotalsOf}
+use Rattle.report.proofs.Answers.{Shown, refused-text, short-text, rows-text, narrow-rows, totals-of, at-most}
 use borrow.Author.Needs.{needs}
 use Rattle.report.proofs.put_job.Statement.{statement}
 use Rattle.report.proofs.put_job.Tie as tie
@@ -35,30 +35,36 @@ module _ (c : tie.After-known-told) where
   kept : length (ended c .run .last .1 .0) ≡ 8192
   kept = search needs
 
-  answered : rowsAnswer (c .before .ran .given .0 .0) ≡ runOf (start (ended c) .args .job .now) 8192
+  answered : ranAnswer (c .before .ran .given .0 .0) ≡ runOf (start (ended c) .args .job .now) 8192
   answered =
       let r = ended c in
       rw lent at (sym (ap runAnswer (c .before .ran .given .1)) ∙ r .run .ensures .0)
 
-  shown : Shown (start (ended c) .args .paged) (placed (start (ended c) .args .job .now)) (c .before .ran .given .0 .0) (ended c .run .last .1 .0)
+  shown : Shown (start (ended c) .args .paged) (placed (start (ended c) .args .job .now)) (c .before .ran .given .0 .0 .rows) (ended c .run .last .1 .0)
   shown =
       let r = ended c in
       let s = start r .args in
       let e = r .run .ensures .1 .0 in
-      subst (Shown (s .paged) (placed (s .job .now)) (c .before .ran .given .0 .0)) (sym e) (rows-text (s .paged) (s .job .now) _ (s .rows .now) lent (sym (ap length e) ∙ kept) answered)
+      subst (Shown (s .paged) (placed (s .job .now)) (c .before .ran .given .0 .0 .rows)) (sym e) (rows-text (s .paged) (s .job .now) _ (s .rows .now) lent (sym (ap length e) ∙ kept) answered)
 
-  narrow : pageTooWide (ended c .run .last .1 .0) (c .before .ran .given .0 .0) ≡ false
+  narrow : pageTooWide (ended c .run .last .1 .0) (c .before .ran .given .0 .0 .rows) ≡ false
   narrow =
       let r = ended c in
       let s = start r .args in
-      subst (λ (words : List ℤ). pageTooWide words (c .before .ran .given .0 .0) ≡ false) (sym (r .run .ensures .1 .0)) (narrow-rows (s .job .now) (λ k. r .before .before .before .shared-slice-known .given k .fits) _ (s .rows .now) lent answered)
+      subst (λ (words : List ℤ). pageTooWide words (c .before .ran .given .0 .0 .rows) ≡ false) (sym (r .run .ensures .1 .0)) (narrow-rows (s .job .now) _ (s .rows .now) lent answered (λ k. r .before .before .before .shared-slice-known .given k .fits))
+
+  totalled : TotalsOf (ended c .run .last .1 .0) (c .before .ran .given .0 .0)
+  totalled =
+      let r = ended c in
+      let s = start r .args in
+      subst (λ (words : List ℤ). TotalsOf words (c .before .ran .given .0 .0)) (sym (r .run .ensures .1 .0)) (totals-of (s .job .now) _ (s .rows .now) lent answered (λ k. r .before .before .before .shared-slice-known .given k .fits))
 
 put-text-requires : tie.Need-put-text-requires
 put-text-requires c κs =
     let k = c .before .before .before in
     let g = shown k in
     let p = start (ended k) .pre in
-    (omega (arith, g .few, kept k), narrow k, omega (arith, g .few, p))
+    (omega (arith, g .few, kept k), totalled k, narrow k, omega (arith, g .few, p))
 
 enum-known-ran-2 : tie.Need-enum-known-ran-2
 enum-known-ran-2 c = search needs
