@@ -4,8 +4,8 @@
 //! Arguments: rounds, of which the best counts; one call, where not all are wanted (run, size, fault, take-down, write, page), or walls:
 //! run for a wall of forty storeys beside forty walls of one; or blocks: storeys in blocks beside storeys singly.
 //! Prints tables in markdown: ns a command (a row, a value, a job) of both, and the ratio.
-//! Assumes nothing. After `rt staticlib capacity_c`, built at the root of the repository by
-//! rustc --edition 2021 -O -L target/staticlib -o target/tests/benchmark tests/benchmark.rs.
+//! Assumes nothing. After `rt lib` in crates/capacity_c, built at the root of the repository by
+//! rustc --edition 2021 -O -L crates/capacity_c/out -o target/tests/benchmark tests/benchmark.rs.
 
 #![allow(dead_code)]
 

@@ -15,7 +15,30 @@ IDENT = r"[^\s(){}\[\].,;:@\"`|]+"
 OWN = re.compile(r"^(?:(?:unfoldable|abbrev|pub|record|data|ruleset) +)*(" + IDENT + r")(?: [^:]*)? :(?: |$)")
 USE = re.compile(r"(?:^|\s)use ([A-Za-z0-9_.·+']+)\.\{([^}]*)\}|(?:^|\s)use ([A-Za-z0-9_.·+']+)(?: as ([a-z_]+))?", re.M)
 # a lemma or field that falls together with a definition, and names that begin with an operator's
-EXPLICIT = {"cut_short": "cut_short_lem", "out_of_range": "out_of_range_lem", "-ℤ-law": "-ℤ_law", "≤S-or": "≤S_or", "≤S-trans": "≤S_trans"}
+EXPLICIT = {"cut_short": "cut_short_lem", "out_of_range": "out_of_range_lem", "-ℤ-law": "-ℤ_law", "≤S-or": "≤S_or", "≤S-trans": "≤S_trans", "in-range": "ranged", "both-flags": "both_flags_kept"}
+# names declared in a module within a file, names of imports, and local names
+EXPLICIT |= {n: snake_of for n, snake_of in (line.split() for line in """
+givenBy given_by_command
+jobText job_text
+printedOf printed_of
+settingsGiven settings_given
+ofResistances of_resistances
+ofCap of_cap
+acceptedText accepted_text
+pageAfter page_after
+setsInRange sets_in_range
+columnPlus column_plus
+columnMinus column_minus
+alongL along_l
+alongB along_b
+outsideOf outside_of
+knownByte known_byte_of
+kindKnown kind_known
+formsInRange forms_in_range
+eccentricOf eccentric_of
+beamShears beam_shears
+allIn all_in
+""".strip().split("\n"))}
 KEYWORDS = {"let", "in", "where", "use", "mod", "elim", "as", "unfolding", "unfold", "infix", "infixl", "infixr", "module", "open"}
 
 
@@ -52,6 +75,9 @@ def declared(text):
                 names |= {w for w in m[1].split() if not w.startswith(("(", "{"))}
             for w in re.findall(r"^  +\| *(" + IDENT + r")", line):
                 names.add(w)
+        m = re.match(r"^ +(?:(?:pub|abbrev|unfoldable) )*([a-z0-9ℤℕ≤<]+(?:-[a-z0-9ℤℕ]+)+) :(?: |$)", line)
+        if m:
+            names.add(m[1])
     return names
 
 
@@ -87,11 +113,11 @@ def mapping(root):
                 library |= lent(f.read())
     names = {n: snake(n) for n in sorted(own - library) if snake(n) != n}
     # a lemma that would have its definition's name gets `_lem`
-    terms = {names.get(n, n) for n in own if "-" not in n}
+    terms = {names.get(n, n) for n in own if "-" not in n} | set(EXPLICIT.values())
     for n in names:
         if "-" in n and names[n] in terms:
             names[n] += "_lem"
-    names.update({n: to for n, to in EXPLICIT.items() if n in own})
+    names.update(EXPLICIT)
     return names, own, library
 
 

@@ -1,5 +1,7 @@
-// An action V ± typeof.a.E, rounded: up, down, or its size without its sign up. It serves the footing (01, "Soil and footing"), the beam, with
-// D for a and 1 for E (01, "Members"), and the basement member (02, No. 9).
+// An action V ± a·E, rounded: up, down, or its size without its sign up. The crate `basement` is over it: 02, No. 9; footing and members
+// have functions of their own (01, "Soil and footing", "Members").
+#![tactic(auto)]
+
 ghost use Rattle.std.specs.Prelude.{◌≡◌, pos, ◌*ℤ◌};
 ghost use Rattle.exact.specs.Fraction.{up_f};
 ghost use Rattle.exact.specs.SignedFraction.{size, up_s, down_s};
@@ -9,7 +11,7 @@ ghost use Rattle.actions.specs.Ranges.{turned, PartFits, ActionFits};
 
 use coefficient::Quotient;
 
-// ± typeof.a.E over the denominator of a.
+// ± a·E over the denominator of a.
 fn seismic_part(a: Quotient, e: i32, minus: bool) -> i64
     requires { PartFits a e }
     ensures { result ≡ turned minus (pos a.num *ℤ e) }
@@ -18,7 +20,7 @@ fn seismic_part(a: Quotient, e: i32, minus: bool) -> i64
     if minus { 0 - part } else { part }
 }
 
-// V ± typeof.a.E, up.
+// V ± a·E, up.
 pub fn action_up(a: Quotient, v: i32, e: i32, minus: bool) -> i64
     requires { ActionFits a v e }
     ensures { result ≡ up_s (action minus (fraction a) v e) }
@@ -30,7 +32,7 @@ pub fn action_up(a: Quotient, v: i32, e: i32, minus: bool) -> i64
     )
 }
 
-// V ± typeof.a.E, down.
+// V ± a·E, down.
 pub fn action_down(a: Quotient, v: i32, e: i32, minus: bool) -> i64
     requires { ActionFits a v e }
     ensures { result ≡ down_s (action minus (fraction a) v e) }
@@ -42,7 +44,7 @@ pub fn action_down(a: Quotient, v: i32, e: i32, minus: bool) -> i64
     )
 }
 
-// The size of V ± typeof.a.E without its sign, up.
+// The size of V ± a·E without its sign, up.
 pub fn action_size(a: Quotient, v: i32, e: i32, minus: bool) -> u64
     requires { ActionFits a v e }
     ensures { result ≡ up_f (size (action minus (fraction a) v e)) }

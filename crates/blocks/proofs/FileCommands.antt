@@ -14,7 +14,7 @@ use Rattle.format.specs.declared.Command.{Command}
 use Rattle.format.specs.declared.Command.TheVariants.{Finish as finish, Settings as settings, Joint as joint, Column as column, Beam as beam, Hingeless as hingeless, WallBase as wall_base, Storey as storey, Soil as soil, Footing as footing, Detail as detail}
 use Rattle.format.specs.Commands.{byte_of}
 use Rattle.format.specs.Reading.{command_at}
-use Rattle.format.proofs.CommandRead.{byte-read as command-byte}
+use Rattle.format.proofs.CommandRead.{byte_read as command-byte}
 use Rattle.blocks.specs.Sets.{is_block, count_at, sets_of}
 use Rattle.blocks.specs.FileCommands.{one, block, file_byte_of, file_command_at, width_of, width_at, storeys_from}
 use Rattle.blocks.proofs.Sets.{storeys_length}
@@ -32,9 +32,9 @@ module _ (job : List ℕ) (at : ℕ) where
   unfolding width_at
   width_one b = rw b
 
-  pub width-block : is_block (byte_at job at) ≡ true → width_at job at ≡ 2 + 24 * count_at job at
+  pub width_block : is_block (byte_at job at) ≡ true → width_at job at ≡ 2 + 24 * count_at job at
   unfolding width_at
-  width-block b = rw b
+  width_block b = rw b
 
   -- one byte at least
   pub width_some : 1 ≤ width_at job at
@@ -74,9 +74,9 @@ KnownAt job start = is_block (byte_at job start) ≡ false → known (byte_at jo
 
 -- what is read there has the byte that stands there, and as many bytes
 module _ (job : List ℕ) (start : ℕ) where
-  pub byte-read : KnownAt job start → file_byte_of (file_command_at job start) ≡ byte_at job start
+  pub byte_read : KnownAt job start → file_byte_of (file_command_at job start) ≡ byte_at job start
   unfolding file_command_at
-  byte-read k = by (is_block (byte_at job start)) refl
+  byte_read k = by (is_block (byte_at job start)) refl
     where
       by : (t : Bool) → is_block (byte_at job start) ≡ t → file_byte_of (cond t (block (sets_of job start)) (one (command_at job start))) ≡ byte_at job start
       by true e = sym (eqb-true (byte_at job start) 11 e)

@@ -10,12 +10,12 @@ use Rattle.walls.specs.declared.Storey.{Storey}
 use Rattle.format.specs.declared.Command.TheVariants.{Storey as storey}
 use Rattle.format.specs.Commands.{in_range, operand_at_fault}
 use Rattle.blocks.specs.Sets.{storey_at, storeys_at, all_in_range, sets_before_fault, set_at_fault, set_named}
-use Rattle.blocks.proofs.Sets.{storeys_length, first-in-range, first-at-fault, none_named}
+use Rattle.blocks.proofs.Sets.{storeys_length, first_in_range, first_at_fault, none_named}
 
 module _ (s : Storey) (ss : List Storey) where
-  one-before : in_range (storey s) ≡ true → sets_before_fault (s ∷ ss) ≡ 1 + sets_before_fault ss
+  one_before : in_range (storey s) ≡ true → sets_before_fault (s ∷ ss) ≡ 1 + sets_before_fault ss
   unfolding sets_before_fault
-  one-before h = rw h
+  one_before h = rw h
 
   none_before : in_range (storey s) ≡ false → sets_before_fault (s ∷ ss) ≡ 0
   unfolding sets_before_fault
@@ -46,21 +46,21 @@ module _ (job : List ℕ) (at count set start : ℕ) (s : Searching job at count
         let e : count - set ≡ suc (count - (set + 1)) = omega arith in
         ap (λ (n : ℕ). storeys_at n job start) e
 
-    pub searches-on : in_range (storey (storey_at job start)) ≡ true → Searching job at count (set + 1) (start + 24)
-    searches-on r =
+    pub searches_on : in_range (storey (storey_at job start)) ≡ true → Searching job at count (set + 1) (start + 24)
+    searches_on r =
         record {
           within = omega arith;
           start_is = omega (arith, s.start_is);
-          before = omega (arith, s.before, ap sets_before_fault split, one-before (storey_at job start) (left job count (set + 1) (start + 24)) r);
+          before = omega (arith, s.before, ap sets_before_fault split, one_before (storey_at job start) (left job count (set + 1) (start + 24)) r);
         }
 
-    pub search-found : in_range (storey (storey_at job start)) ≡ false → set ≡ sets_before_fault (storeys_at count job at)
-    search-found r = omega (arith, s.before, ap sets_before_fault split, none_before (storey_at job start) (left job count (set + 1) (start + 24)) r)
+    pub search_found : in_range (storey (storey_at job start)) ≡ false → set ≡ sets_before_fault (storeys_at count job at)
+    search_found r = omega (arith, s.before, ap sets_before_fault split, none_before (storey_at job start) (left job count (set + 1) (start + 24)) r)
 
   -- none is left
-  pub search-ends : count ≤ set → set ≡ sets_before_fault (storeys_at count job at)
+  pub search_ends : count ≤ set → set ≡ sets_before_fault (storeys_at count job at)
   unfolding storeys_at sets_before_fault
-  search-ends l =
+  search_ends l =
       let e : count - set ≡ 0 = omega arith in
       omega (arith, s.before, ap (λ (n : ℕ). sets_before_fault (storeys_at n job start)) e)
 
@@ -75,7 +75,7 @@ pub record Faulty (ss : List Storey) (job : List ℕ) (start set : ℕ) : Type 0
 -- one set in range before it
 further : (s : Storey) (ss : List Storey) (job : List ℕ) (start set : ℕ) → in_range (storey s) ≡ true → Faulty ss job start set → Faulty (s ∷ ss) job start (1 + set)
 further s ss job start set h f =
-    let e = first-in-range s ss h in
+    let e = first_in_range s ss h in
     record { out = f.out; some_out = e.0 ∙ f.some_out; fault = omega (arith, e.1, f.fault) }
 
 faulty_step : (s : Storey) (ss : List Storey) (job : List ℕ) (start set : ℕ) → (in_range (storey s) ≡ true → (set : ℕ) → sets_before_fault (s ∷ ss) ≡ 1 + set → Faulty ss job start set) →
@@ -84,10 +84,10 @@ faulty_step s ss job start set later first e = by (in_range (storey s)) refl
   where
     by : (b : Bool) → in_range (storey s) ≡ b → Faulty (s ∷ ss) job start set
     by true h =
-        let k = one-before s ss h in
+        let k = one_before s ss h in
         rw (e ∙ k) (further s ss job start (sets_before_fault ss) h (later h (sets_before_fault ss) k))
     by false h =
-        let f = first-at-fault s ss h in
+        let f = first_at_fault s ss h in
         let o = first h in
         record { out = ap (λ (x : Storey). in_range (storey x)) (sym o) ∙ h; some_out = f.0; fault = f.1 ∙ omega (arith, e, none_before s ss h, ap (λ (x : Storey). operand_at_fault (storey x)) o) }
 
@@ -102,7 +102,7 @@ faulty_at (suc n) job at start e l =
     let s = storey_at job at in
     let ss = storeys_at n job (at + 24) in
     faulty_step s ss job start (sets_before_fault (s ∷ ss))
-    (λ h set k. subst (Faulty ss job start) (omega (arith, k, one-before s ss h)) (faulty_at n job (at + 24) start (omega (arith, e, one-before s ss h)) (omega (arith, l, one-before s ss h))))
+    (λ h set k. subst (Faulty ss job start) (omega (arith, k, one_before s ss h)) (faulty_at n job (at + 24) start (omega (arith, e, one_before s ss h)) (omega (arith, l, one_before s ss h))))
     (λ h. ap (storey_at job) (at_first h)) refl
   where
     at_first : in_range (storey (storey_at job at)) ≡ false → at ≡ start
@@ -117,7 +117,7 @@ before_each s ss (m, a) = by (in_range (storey s)) refl
     none n e = omega arith
 
     by : (b : Bool) → in_range (storey s) ≡ b → (sets_before_fault (s ∷ ss) ≤ suc (length ss)) × (sets_before_fault (s ∷ ss) ≡ suc (length ss) → all_in_range (s ∷ ss) ≡ true)
-    by true h = let k = one-before s ss h in (omega (arith, k, m), λ e. (first-in-range s ss h).0 ∙ a (omega (arith, e, k)))
+    by true h = let k = one_before s ss h in (omega (arith, k, m), λ e. (first_in_range s ss h).0 ∙ a (omega (arith, e, k)))
     by false h = let k = none_before s ss h in (omega (arith, k), λ e. absurd (none (length ss) (sym k ∙ e)))
 
 before_all : (ss : List Storey) → (sets_before_fault ss ≤ length ss) × (sets_before_fault ss ≡ length ss → all_in_range ss ≡ true)
@@ -126,8 +126,8 @@ before_all [] = (omega arith, λ e. refl)
 before_all (s ∷ ss) = before_each s ss (before_all ss)
 
 module _ (n : ℕ) (job : List ℕ) (at : ℕ) where
-  pub before-most : sets_before_fault (storeys_at n job at) ≤ n
-  before-most = omega (arith, (before_all (storeys_at n job at)).0, storeys_length n job at)
+  pub before_most : sets_before_fault (storeys_at n job at) ≤ n
+  before_most = omega (arith, (before_all (storeys_at n job at)).0, storeys_length n job at)
 
   pub all_named : sets_before_fault (storeys_at n job at) ≡ n → set_named (storeys_at n job at) ≡ 0
   all_named e = none_named (storeys_at n job at) ((before_all (storeys_at n job at)).1 (e ∙ sym (storeys_length n job at)))

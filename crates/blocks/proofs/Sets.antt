@@ -60,17 +60,17 @@ fault_below s = by (ltb first 6) refl
 -- ---- the first set is in range, or it is the one at fault
 
 module _ (s : Storey) (ss : List Storey) where
-  pub first-in-range : in_range (storey s) ≡ true → (all_in_range (s ∷ ss) ≡ all_in_range ss) × (set_at_fault (s ∷ ss) ≡ 6 + set_at_fault ss)
+  pub first_in_range : in_range (storey s) ≡ true → (all_in_range (s ∷ ss) ≡ all_in_range ss) × (set_at_fault (s ∷ ss) ≡ 6 + set_at_fault ss)
   unfolding all_in_range set_at_fault
-  first-in-range h = (rw h, rw h)
+  first_in_range h = (rw h, rw h)
 
-  pub first-at-fault : in_range (storey s) ≡ false → (all_in_range (s ∷ ss) ≡ false) × (set_at_fault (s ∷ ss) ≡ operand_at_fault (storey s))
+  pub first_at_fault : in_range (storey s) ≡ false → (all_in_range (s ∷ ss) ≡ false) × (set_at_fault (s ∷ ss) ≡ operand_at_fault (storey s))
   unfolding all_in_range set_at_fault
-  first-at-fault h = (rw h, rw h)
+  first_at_fault h = (rw h, rw h)
 
-  pub each-in-range : all_in_range (s ∷ ss) ≡ true → (in_range (storey s) ≡ true) × (all_in_range ss ≡ true)
+  pub each_in_range : all_in_range (s ∷ ss) ≡ true → (in_range (storey s) ≡ true) × (all_in_range ss ≡ true)
   unfolding all_in_range
-  each-in-range h = (and_first (in_range (storey s)) (all_in_range ss) h, and_second (in_range (storey s)) (all_in_range ss) h)
+  each_in_range h = (and_first (in_range (storey s)) (all_in_range ss) h, and_second (in_range (storey s)) (all_in_range ss) h)
 
 -- ---- the operand named
 

@@ -1,4 +1,6 @@
 // A block of storeys: the range of its count, and the operand at fault among its sets. 02, No. 7.
+#![tactic(auto)]
+
 ghost use Rattle.std.specs.Prelude.{◌≡◌, false, ◌+◌, ◌*◌, ◌≤◌, length};
 ghost use Rattle.format.specs.Commands.{in_range, operand_at_fault};
 ghost use Rattle.format.specs.declared.Command.TheVariants.{Storey as storey};

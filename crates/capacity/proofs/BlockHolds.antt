@@ -22,7 +22,7 @@ use Rattle.rows.specs.Writing.{joined}
 use Rattle.job.specs.Placed.{Placed, place_each, placed_in, placed_all, Job, accepted, placed, rows_at, all_rows}
 use Rattle.job.proofs.PlacedCases.{placed_of_lem}
 use Rattle.job.proofs.Faultless.{Standing, settings_there}
-use Rattle.job.proofs.AcceptedLaws.{accepted-each}
+use Rattle.job.proofs.AcceptedLaws.{accepted_each}
 use Rattle.job.proofs.AlreadyMet.{rows_of_both, placed_both}
 use Rattle.capacity.specs.Calls.{rows_from, rows_after}
 use Rattle.capacity.specs.DemandThree.{claims_of, claims_with, row_read, RowsHold, AllHold, JobHolds, DemandThree}
@@ -97,7 +97,7 @@ blocks_held job b es e before x after q first s rest g m l =
     let own : placed_in x ≡ place_each h (storeys_from at (first ++ s ∷ rest)) = ap (λ (c : FileCommand). place_each h (commands_from x.offset c)) g in
     let first_of = head first s rest in
     let standing : Standing (record { offset = at; command = storey first_of.0; context = h }) =
-    (accepted-each job (placed_all es) is-placed (placed_all before) (record { offset = at; command = storey first_of.0; context = h }) (place_each (next h (storey first_of.0)) (storeys_from (at + 24) first_of.1) ++ placed_all after)
+    (accepted_each job (placed_all es) is-placed (placed_all before) (record { offset = at; command = storey first_of.0; context = h }) (place_each (next h (storey first_of.0)) (storeys_from (at + 24) first_of.1) ++ placed_all after)
     (all ∙ ap (λ (ps : List Placed). placed_all before ++ (ps ++ placed_all after)) (own ∙ ap (λ (ss : List Storey). place_each h (storeys_from at ss)) first_of.2))).1 in
     let (settings, by_settings) = present h.settings (settings_there 7 refl h.settings standing.settings) in
     let (base, by-base) = present h.wall standing.present in

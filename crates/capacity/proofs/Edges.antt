@@ -14,7 +14,7 @@ use Rattle.exact.specs.Fraction.{smaller}
 use Rattle.quantity.specs.Range.{within, within_signed}
 use Rattle.soil.specs.Answers.{accepted, refused}
 use Rattle.soil.specs.Value.{allowed, cut}
-use Rattle.soil.specs.Kinds.{known as kindKnown, top_of, factor_of, value_allowed}
+use Rattle.soil.specs.Kinds.{known as kind_known, top_of, factor_of, value_allowed}
 use Rattle.soil.specs.Reading.{soil_allowed, soil_holding}
 use Rattle.soil.specs.Taken.{taken, take_down, tangent_of}
 use Rattle.cubes.specs.Root.{first_from, least_root}
@@ -94,10 +94,10 @@ abbrev soil : ℕ → List ℕ
 soil sensitive = 0x08 ∷ 0x00 ∷ 0x3f ∷ 0x00 ∷ 0x00 ∷ 0x00 ∷ sensitive ∷ []
 
 -- B and L of four bytes each, the same; MR 400,000, ME 200,000; NV, XV, YV, HV of four bytes each; all seismic actions, U and P 0
-abbrev footing : (side normal alongB alongL horizontal : List ℕ) → ℕ → List ℕ
-footing side normal alongB alongL horizontal flags =
+abbrev footing : (side normal along_b along_l horizontal : List ℕ) → ℕ → List ℕ
+footing side normal along_b along_l horizontal flags =
     0x09 ∷ side ++ side ++ 0x00 ∷ 0x06 ∷ 0x1a ∷ 0x80 ∷ 0x00 ∷ 0x03 ∷ 0x0d ∷ 0x40
-    ∷ normal ++ zeros 4 ++ alongB ++ zeros 4 ++ alongL ++ zeros 4 ++ horizontal ++ zeros 4 ++ zeros 8 ++ flags ∷ []
+    ∷ normal ++ zeros 4 ++ along_b ++ zeros 4 ++ along_l ++ zeros 4 ++ horizontal ++ zeros 4 ++ zeros 8 ++ flags ∷ []
 
 -- 2,000, 3,000 and 4,000 in four bytes
 abbrev side2000 : List ℕ
@@ -267,7 +267,7 @@ pub edges : Edges
 unfolding
     run_of rows_after verdict_at row_failed checks_of verdict_sum rows_failed checks_failed ones_in ones placed listed listed_by all_rows rows_of rows_with tests_at command_tests file_command_at width_at too_many misplaced known known_in forms_of forms_in operands_width width_of_all width command_at command_of read_operands number number_after in_range all_in_range
     form_in_range related within within_signed signed32 bits32 next absent column_row beam_row hingeless_row detail_row base_row base_row_from storey_row storey_row_from footing_row base_resistance coefficient_of cap_governs smaller up down up_ℤ down_ℤ
-    first_from least_root soil_allowed soil_holding value_allowed kindKnown top_of factor_of allowed cut taken take_down tangent_of accepted refused of_bits
+    first_from least_root soil_allowed soil_holding value_allowed kind_known top_of factor_of allowed cut taken take_down tangent_of accepted refused of_bits
 edges =
     record {
       column_equal_lem = record { answer = refl; words = refl };

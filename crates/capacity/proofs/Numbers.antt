@@ -17,7 +17,7 @@ use Rattle.totals.specs.Rows.{verdict_at, good_verdict, verdict_sum, rows_failed
 use Rattle.totals.specs.Counted.{counted_in, GoodRows}
 use Rattle.totals.proofs.Verdicts.{number_good}
 use Rattle.totals.proofs.Sums.{rows_failed_le, rows_have_checks, no_checks}
-use Rattle.totals.proofs.Laws.{front-failed, front-checks}
+use Rattle.totals.proofs.Laws.{front_failed, front_checks}
 use Rattle.layout.proofs.Numbers.{Bytes}
 use Rattle.format.specs.Commands.{byte_of}
 use Rattle.rows.specs.Rows.{rows_of, words}
@@ -62,14 +62,14 @@ good_in_slice (r ∷ rs) after e g (suc i) h =
 -- ---- what `count` asks of words that begin with a job's rows, and what it gives
 
 module _ (ps : List Placed) (g : AllGood ps) (after m : List ℤ) (n : ℕ) (e : m ≡ joined (all_rows ps) ++ after) (k : n ≡ length (all_rows ps)) where
-  pub rows-good-in : GoodRows m n
-  rows-good-in = rw (e, k) (record { good = good_in_slice (all_rows ps) after (rows_eight ps) (all_rows_good ps g) })
+  pub rows_good_in : GoodRows m n
+  rows_good_in = rw (e, k) (record { good = good_in_slice (all_rows ps) after (rows_eight ps) (all_rows_good ps g) })
 
-  pub count-is : counted_in m n ≡ totals_of (all_rows ps)
-  count-is =
+  pub count_is : counted_in m n ≡ totals_of (all_rows ps)
+  count_is =
       let rows = joined (all_rows ps) in
       let fit : 8 * length (all_rows ps) ≤ length rows = omega (arith, joined_length (all_rows ps) (rows_eight ps)) in
-      rw (e, k, front-failed rows after (length (all_rows ps)) fit, front-checks rows after (length (all_rows ps)) fit)
+      rw (e, k, front_failed rows after (length (all_rows ps)) fit, front_checks rows after (length (all_rows ps)) fit)
 
 -- ---- the numbers
 
@@ -92,11 +92,11 @@ numbers_of_rows ps g after =
     let n = length rows in
     let fit : 8 * n ≤ length (joined rows) = omega (arith, joined_length rows (rows_eight ps)) in
     record {
-      failed_counted = sym (front-failed (joined rows) after n fit);
-      checks_counted = sym (front-checks (joined rows) after n fit);
+      failed_counted = sym (front_failed (joined rows) after n fit);
+      checks_counted = sym (front_checks (joined rows) after n fit);
       failed_few = rows_failed_le (joined rows) n;
       none_failed = (no_checks (joined rows) n, λ e. omega (arith, e, rows_have_checks (joined rows) n));
-      verdicts_good = (rows-good-in ps g after (joined rows ++ after) n refl refl).good;
+      verdicts_good = (rows_good_in ps g after (joined rows ++ after) n refl refl).good;
     }
 
 numbers_from : (j : Job) → GoodJob j → (m : List ℤ) → NumbersOf (run_from j (length m)) (rows_from j m)

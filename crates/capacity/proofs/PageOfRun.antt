@@ -24,7 +24,7 @@ use Rattle.printing.specs.Answers.{any_too_wide, page_too_wide, printed, refused
 use Rattle.printing.proofs.Narrow.{row_narrow}
 use Rattle.printing.proofs.Scan.{row_passed}
 use Rattle.printing.proofs.Lengths.{page_length_lem}
-use Rattle.printing.proofs.Answered.{page-answer}
+use Rattle.printing.proofs.Answered.{page_answer_lem}
 use Rattle.job.specs.Placed.{Placed, Job, refused, accepted, placed, all_rows}
 use Rattle.job.proofs.Offsets.{accepted_offset, byte_most}
 use Rattle.capacity.specs.Calls.{run_from, run_of, rows_from, rows_after}
@@ -100,27 +100,27 @@ words_enough (accepted ps) m a =
 
 module _ (job : List ℕ) (bytes : Bytes job) (m : List ℤ) (a : (run_of job (length m)).accepted ≡ true) (n : ℕ) (h : n ≤ (run_of job (length m)).rows) where
   -- no value is too wide
-  pub none-too-wide : page_too_wide (rows_after job m) n ≡ false
+  pub none_too_wide : page_too_wide (rows_after job m) n ≡ false
   unfolding run_of rows_after
-  none-too-wide = narrow_from (placed job) m (narrow_job job (placed job) refl (all_good job bytes)) a n h
+  none_too_wide = narrow_from (placed job) m (narrow_job job (placed job) refl (all_good job bytes)) a n h
 
   enough : 8 * n ≤ length (rows_after job m)
   unfolding run_of rows_after
   enough = omega (arith, h, words_enough (placed job) m a)
 
   -- so the page is printed, or refused with 11
-  pub page-of-run : (room : ℕ) → page_of (rows_after job m) n room ≡ cond (ltb room (length (page_text (rows_after job m) n))) (refused_with 11) (printed (length (page_text (rows_after job m) n)))
+  pub page_of_run : (room : ℕ) → page_of (rows_after job m) n room ≡ cond (ltb room (length (page_text (rows_after job m) n))) (refused_with 11) (printed (length (page_text (rows_after job m) n)))
   unfolding page_of
-  page-of-run room = rw (le-ltb (length (rows_after job m)) (8 * n) enough, none-too-wide)
+  page_of_run room = rw (le-ltb (length (rows_after job m)) (8 * n) enough, none_too_wide)
 
   -- never with 12
-  pub never-twelve : (room : ℕ) → ¬ ((page_of (rows_after job m) n room).number ≡ 12)
-  never-twelve room e = by (ltb room (length (page_text (rows_after job m) n))) (rw (page-of-run room) at e)
+  pub never_twelve : (room : ℕ) → ¬ ((page_of (rows_after job m) n room).number ≡ 12)
+  never_twelve room e = by (ltb room (length (page_text (rows_after job m) n))) (rw (page_of_run room) at e)
     where
       by : (b : Bool) → ¬ ((cond b (refused_with 11) (printed (length (page_text (rows_after job m) n)))).number ≡ 12)
       by true e = omega arith
       by false e = omega arith
 
   -- with room for the page it is printed
-  pub page-printed : (room : ℕ) → page_length n ≤ room → page_of (rows_after job m) n room ≡ printed (page_length n)
-  page-printed room l = page-answer (rows_after job m) n room enough none-too-wide l ∙ ap printed (page_length_lem (rows_after job m) n enough none-too-wide)
+  pub page_printed : (room : ℕ) → page_length n ≤ room → page_of (rows_after job m) n room ≡ printed (page_length n)
+  page_printed room l = page_answer_lem (rows_after job m) n room enough none_too_wide l ∙ ap printed (page_length_lem (rows_after job m) n enough none_too_wide)

@@ -27,11 +27,11 @@ use Rattle.job.specs.Answers.{size_from, size_of, fault_in, fault_of}
 use Rattle.job.specs.Earlier.{latest_joint, ending_by}
 use Rattle.job.proofs.PlacedCases.{placed_of_lem}
 use Rattle.job.proofs.Faultless.{settings_there}
-use Rattle.job.proofs.AcceptedLaws.{accepted-each}
+use Rattle.job.proofs.AcceptedLaws.{accepted_each}
 use Rattle.job.proofs.AcceptedBefore.{with7, accepted_before}
 use Rattle.job.proofs.Latest.{latest_joint_lem}
-use Rattle.job.proofs.AlreadyMet.{met_rows_first, same-met-rows}
-use Rattle.job.proofs.RefusedLaws.{never-seven}
+use Rattle.job.proofs.AlreadyMet.{met_rows_first, same_met_rows}
+use Rattle.job.proofs.RefusedLaws.{never_seven}
 use Rattle.totals.specs.declared.Totals.{Totals}
 use Rattle.capacity.specs.Calls.{totals_of, ran_answer, too_short_run, run_from, run_of, rows_from, rows_after}
 use Rattle.capacity.specs.DemandThree.{claims_of, claims_with}
@@ -42,20 +42,20 @@ use Rattle.capacity.proofs.Runs.{differ}
 
 -- by the tests of document 01, with that for 7
 module _ (job : List ℕ) (ps : List Placed) (e : placed_with (with7 tests_at) job ≡ accepted ps) where
-  same-placed : placed_with (with7 tests_at) job ≡ placed job
-  same-placed = e ∙ sym (accepted_before job ps e)
+  same_placed : placed_with (with7 tests_at) job ≡ placed job
+  same_placed = e ∙ sym (accepted_before job ps e)
 
-  pub same-size-as-before : size_from (placed_with (with7 tests_at) job) ≡ size_of job
+  pub same_size_as_before : size_from (placed_with (with7 tests_at) job) ≡ size_of job
   unfolding size_of
-  same-size-as-before = ap size_from same-placed
+  same_size_as_before = ap size_from same_placed
 
-  pub same-answer-as-before : (words : ℕ) → run_from (placed_with (with7 tests_at) job) words ≡ run_of job words
+  pub same_answer_as_before : (words : ℕ) → run_from (placed_with (with7 tests_at) job) words ≡ run_of job words
   unfolding run_of
-  same-answer-as-before words = ap (λ (j : Job). run_from j words) same-placed
+  same_answer_as_before words = ap (λ (j : Job). run_from j words) same_placed
 
-  pub same-rows-as-before : (m : List ℤ) → rows_from (placed_with (with7 tests_at) job) m ≡ rows_after job m
+  pub same_rows_as_before : (m : List ℤ) → rows_from (placed_with (with7 tests_at) job) m ≡ rows_after job m
   unfolding rows_after
-  same-rows-as-before m = ap (λ (j : Job). rows_from j m) same-placed
+  same_rows_as_before m = ap (λ (j : Job). rows_from j m) same_placed
 
 -- ---- the joints of a member without hinges
 
@@ -80,15 +80,15 @@ module _ (p : Placed) (s : Settings) (i j : Joint) (id1 id2 : ℕ) (m : Hingeles
   unfolding rows_of rows_with
   rows_made = rw (c, es, ei, ej)
 
-  claims-made : claims_of p ≡ (λ r. Hold (hingeless_claims s i j m r)) ∷ []
+  claims_made : claims_of p ≡ (λ r. Hold (hingeless_claims s i j m r)) ∷ []
   unfolding claims_of claims_with
-  claims-made = rw (c, es, ei, ej)
+  claims_made = rw (c, es, ei, ej)
 
 module _ (job : List ℕ) (ps : List Placed) (e : placed job ≡ accepted ps) (earlier : List Placed) (p : Placed) (later : List Placed) (q : ps ≡ earlier ++ p ∷ later) where
-  pub latest-joints-count : (id1 id2 : ℕ) (m : Hingeless) → p.command ≡ hingeless id1 id2 m → Counted earlier p id1 id2 m
+  pub latest_joints_count : (id1 id2 : ℕ) (m : Hingeless) → p.command ≡ hingeless id1 id2 m → Counted earlier p id1 id2 m
   unfolding absent
-  latest-joints-count id1 id2 m c =
-      let t = (accepted-each job ps e earlier p later q).1 in
+  latest_joints_count id1 id2 m c =
+      let t = (accepted_each job ps e earlier p later q).1 in
       let (s, es) = present p.context.settings (settings_there 5 refl p.context.settings (rw c at t.settings)) in
       let n = neither (missing (p.context.joints id1)) (missing (p.context.joints id2)) (rw c at t.present) in
       let (i, ei) = present (p.context.joints id1) n.0 in
@@ -101,7 +101,7 @@ module _ (job : List ℕ) (ps : List Placed) (e : placed job ≡ accepted ps) (e
         latest1 = sym (latest_joint_lem job ps e earlier p later q id1) ∙ ei;
         latest2 = sym (latest_joint_lem job ps e earlier p later q id2) ∙ ej;
         rows = rows_made p s i j id1 id2 m c es ei ej;
-        claims = claims-made p s i j id1 id2 m c es ei ej;
+        claims = claims_made p s i j id1 id2 m c es ei ej;
       }
 
 -- ---- the words of commands already met
@@ -125,7 +125,7 @@ pub same_met_words : (front a b : List ℕ) (es fs : List Entry) → listed (fro
     (m k : List ℤ) → 8 * length (all_rows (placed_all es)) ≤ length m → 8 * length (all_rows (placed_all fs)) ≤ length k →
     take (8 * length (all_rows (placed_all (ending_by (length front) es)))) (rows_after (front ++ a) m) ≡ take (8 * length (all_rows (placed_all (ending_by (length front) fs)))) (rows_after (front ++ b) k)
 same_met_words front a b es fs e g m k l w =
-    met_words (front ++ a) es e (length front) m l ∙ ap joined (same-met-rows front a b es fs e g) ∙ sym (met_words (front ++ b) fs g (length front) k w)
+    met_words (front ++ a) es e (length front) m l ∙ ap joined (same_met_rows front a b es fs e g) ∙ sym (met_words (front ++ b) fs g (length front) k w)
 
 -- ---- refusal 7 no longer occurs
 
@@ -136,22 +136,22 @@ module _ (job : List ℕ) where
   -- an answer made from the placed commands, whose number is that of their refusal, and another than 7 where they are accepted
   never : (number : Job → ℕ) → ((n offset : ℕ) → number (refused n offset) ≡ n) → ((ps : List Placed) → number (accepted ps) ≡ 7 → ⊥) →
       (j : Job) → placed job ≡ j → number j ≡ 7 → ⊥
-  never number r a (refused n offset) e s = never-seven job n offset e (sym (r n offset) ∙ s)
+  never number r a (refused n offset) e s = never_seven job n offset e (sym (r n offset) ∙ s)
   never number r a (accepted ps) e s = a ps s
 
   -- neither size, nor fault, nor run answers 7
-  pub size-never-seven : (size_of job).number ≡ 7 → ⊥
+  pub size_never_seven : (size_of job).number ≡ 7 → ⊥
   unfolding size_of
-  size-never-seven = never (λ j. (size_from j).number) (λ n offset. refl) (λ ps. other 0 tt) (placed job) refl
+  size_never_seven = never (λ j. (size_from j).number) (λ n offset. refl) (λ ps. other 0 tt) (placed job) refl
 
-  pub fault-never-seven : (fault_of job).number ≡ 7 → ⊥
+  pub fault_never_seven : (fault_of job).number ≡ 7 → ⊥
   unfolding fault_of
-  fault-never-seven = never (λ j. (fault_in job j).number) (λ n offset. refl) (λ ps. other 0 tt) (placed job) refl
+  fault_never_seven = never (λ j. (fault_in job j).number) (λ n offset. refl) (λ ps. other 0 tt) (placed job) refl
 
-  pub run-never-seven : (words : ℕ) → (run_of job words).number ≡ 7 → ⊥
+  pub run_never_seven : (words : ℕ) → (run_of job words).number ≡ 7 → ⊥
   unfolding run_of
-  run-never-seven words = never (λ j. (run_from j words).number) (λ n offset. refl) (λ ps. none-or-nine (leb (8 * length (all_rows ps)) words) (totals_of (all_rows ps))) (placed job) refl
+  run_never_seven words = never (λ j. (run_from j words).number) (λ n offset. refl) (λ ps. none_or_nine (leb (8 * length (all_rows ps)) words) (totals_of (all_rows ps))) (placed job) refl
     where
-      none-or-nine : (fits : Bool) (t : Totals) → (cond fits (ran_answer t) (too_short_run t.rows)).number ≡ 7 → ⊥
-      none-or-nine true n = other 0 tt
-      none-or-nine false n = other 9 tt
+      none_or_nine : (fits : Bool) (t : Totals) → (cond fits (ran_answer t) (too_short_run t.rows)).number ≡ 7 → ⊥
+      none_or_nine true n = other 0 tt
+      none_or_nine false n = other 9 tt

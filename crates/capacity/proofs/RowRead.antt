@@ -18,9 +18,9 @@ use Rattle.capacity.proofs.Whole.{read_back}
 
 -- a command of an accepted job with one row, and a slice with room: the row stands behind those of the commands before it
 module _ (job : List ℕ) (ps : List Placed) (e : placed job ≡ accepted ps) (earlier : List Placed) (p : Placed) (later : List Placed) (q : ps ≡ earlier ++ p ∷ later) where
-  pub row_read : (byte : ℕ) (r : Row) → rows_at p ≡ words p.offset byte r ∷ [] → (m : List ℤ) → 8 * length (all_rows ps) ≤ length m → row_read (rows_after job m) (length (all_rows earlier)) ≡ r
+  pub row_read_lem : (byte : ℕ) (r : Row) → rows_at p ≡ words p.offset byte r ∷ [] → (m : List ℤ) → 8 * length (all_rows ps) ≤ length m → row_read (rows_after job m) (length (all_rows earlier)) ≡ r
   unfolding rows_after all_rows
-  row_read byte r s m l =
+  row_read_lem byte r s m l =
       let n = length (all_rows earlier) in
       let own = words p.offset byte r in
       let front = joined (all_rows earlier) in

@@ -13,7 +13,7 @@ use Rattle.walls.specs.Base.{WallBaseRange}
 use Rattle.walls.specs.Storey.{storey_row}
 use Rattle.walls.proofs.Sizes.{base_sized, storey_sized}
 use Rattle.footing.specs.Rows.{footing_row}
-use Rattle.footing.proofs.Sizes.{footing-sized}
+use Rattle.footing.proofs.Sizes.{footing_sized}
 use Rattle.format.specs.declared.Command.{Command}
 use Rattle.format.specs.declared.Command.TheVariants.{Finish as finish, Settings as settings, Joint as joint, Column as column, Beam as beam, Hingeless as hingeless, WallBase as wall_base, Storey as storey, Soil as soil, Footing as footing, Detail as detail}
 use Rattle.format.specs.Commands.{in_range}
@@ -26,40 +26,40 @@ use Rattle.job.specs.Placed.{Placed}
 use Rattle.capacity.proofs.Ranges.{ContextRange, Good}
 
 module _ (h : Context) (s : Settings) (range : ContextRange h) (r : SettingsRange s) where
-  with-settings : (c : Command) → in_range c ≡ true → OfTypes c → AllSized (rows_with h s c)
+  with_settings_lem : (c : Command) → in_range c ≡ true → OfTypes c → AllSized (rows_with h s c)
   unfolding rows_with
-  with-settings finish i f = tt
-  with-settings (settings x) i f = tt
-  with-settings (joint id j) i f = tt
-  with-settings (column c) i f = (column_sized s.behaviour c (column_range s r c i), tt)
-  with-settings (beam b) i f = (beam_sized s.behaviour b (beam_range s r b f i), tt)
-  with-settings (hingeless id1 id2 m) i f = two-joints (h.joints id1) (h.joints id2) (range.joints id1) (range.joints id2)
+  with_settings_lem finish i f = tt
+  with_settings_lem (settings x) i f = tt
+  with_settings_lem (joint id j) i f = tt
+  with_settings_lem (column c) i f = (column_sized s.behaviour c (column_range s r c i), tt)
+  with_settings_lem (beam b) i f = (beam_sized s.behaviour b (beam_range s r b f i), tt)
+  with_settings_lem (hingeless id1 id2 m) i f = two_joints (h.joints id1) (h.joints id2) (range.joints id1) (range.joints id2)
     where
-      two-joints : (o1 o2 : Option Joint) → ((j : Joint) → o1 ≡ some j → JointRange j) → ((j : Joint) → o2 ≡ some j → JointRange j) →
+      two_joints : (o1 o2 : Option Joint) → ((j : Joint) → o1 ≡ some j → JointRange j) → ((j : Joint) → o2 ≡ some j → JointRange j) →
           AllSized (when_given o1 (λ i. when_given o2 (λ j. hingeless_row s i j m ∷ [])))
-      two-joints none o2 r1 r2 = tt
-      two-joints (some j1) none r1 r2 = tt
-      two-joints (some j1) (some j2) r1 r2 = (hingeless_sized s j1 j2 m (hingeless_range s r j1 j2 (r1 j1 refl) (r2 j2 refl) id1 id2 m f.2 i), tt)
-  with-settings (wall_base b) i f = (base_sized s.behaviour b (wall_base_range s r b i), tt)
-  with-settings (storey x) i f = of-wall h.wall (λ b e. wall_base_range s r b (range.wall b e))
+      two_joints none o2 r1 r2 = tt
+      two_joints (some j1) none r1 r2 = tt
+      two_joints (some j1) (some j2) r1 r2 = (hingeless_sized s j1 j2 m (hingeless_range s r j1 j2 (r1 j1 refl) (r2 j2 refl) id1 id2 m f.2 i), tt)
+  with_settings_lem (wall_base b) i f = (base_sized s.behaviour b (wall_base_range s r b i), tt)
+  with_settings_lem (storey x) i f = of_wall h.wall (λ b e. wall_base_range s r b (range.wall b e))
     where
-      of-wall : (o : Option WallBase) → ((b : WallBase) → o ≡ some b → WallBaseRange s.behaviour b) → AllSized (when_given o (λ b. storey_row s.behaviour b x ∷ []))
-      of-wall none w = tt
-      of-wall (some b) w = (storey_sized s.behaviour b x (w b refl) (storey_range x i), tt)
-  with-settings (soil x) i f = tt
-  with-settings (footing x) i f = on-ground h.ground
+      of_wall : (o : Option WallBase) → ((b : WallBase) → o ≡ some b → WallBaseRange s.behaviour b) → AllSized (when_given o (λ b. storey_row s.behaviour b x ∷ []))
+      of_wall none w = tt
+      of_wall (some b) w = (storey_sized s.behaviour b x (w b refl) (storey_range x i), tt)
+  with_settings_lem (soil x) i f = tt
+  with_settings_lem (footing x) i f = on_ground h.ground
     where
-      on-ground : (o : Option Ground) → AllSized (when_given o (λ g. footing_row s x g.soil g.sensitive false ∷ footing_row s x g.soil g.sensitive true ∷ []))
-      on-ground none = tt
-      on-ground (some g) =
-          let in_range_lem = footing_range s r x f i in
-          (footing-sized s x false in_range_lem g.soil g.sensitive, (footing-sized s x true in_range_lem g.soil g.sensitive, tt))
-  with-settings (detail d) i f = (detail_sized d (detail_range d i), tt)
+      on_ground : (o : Option Ground) → AllSized (when_given o (λ g. footing_row s x g.soil g.sensitive false ∷ footing_row s x g.soil g.sensitive true ∷ []))
+      on_ground none = tt
+      on_ground (some g) =
+          let ranged = footing_range s r x f i in
+          (footing_sized s x false ranged g.soil g.sensitive, (footing_sized s x true ranged g.soil g.sensitive, tt))
+  with_settings_lem (detail d) i f = (detail_sized d (detail_range d i), tt)
 
 pub rows_sized : (p : Placed) → Good p → AllSized (rows_of p.context p.command)
 unfolding rows_of
-rows_sized p g = given-settings p.context.settings g.context.settings
+rows_sized p g = given_settings p.context.settings g.context.settings
   where
-    given-settings : (o : Option Settings) → ((s : Settings) → o ≡ some s → SettingsRange s) → AllSized (when_given o (λ s. rows_with p.context s p.command))
-    given-settings none r = tt
-    given-settings (some s) r = with-settings p.context s g.context (r s refl) p.command g.range g.types
+    given_settings : (o : Option Settings) → ((s : Settings) → o ≡ some s → SettingsRange s) → AllSized (when_given o (λ s. rows_with p.context s p.command))
+    given_settings none r = tt
+    given_settings (some s) r = with_settings_lem p.context s g.context (r s refl) p.command g.range g.types

@@ -14,7 +14,7 @@ use Rattle.members.proofs.HingelessHolds.{hingeless_holds}
 use Rattle.members.proofs.DetailHolds.{detail_holds}
 use Rattle.walls.specs.declared.WallBase.{WallBase}
 use Rattle.walls.specs.Storey.{storey_row, storey_claims}
-use Rattle.walls.proofs.Rows.{base_holds, storey-holds}
+use Rattle.walls.proofs.Rows.{base_holds, storey_holds}
 use Rattle.footing.specs.Rows.{footing_row}
 use Rattle.footing.proofs.Held.{footing_holds}
 use Rattle.format.specs.declared.Command.{Command}
@@ -37,42 +37,42 @@ Pairwise (c ∷ cs) [] = ⊥
 Pairwise (c ∷ cs) (r ∷ rs) = c r × Pairwise cs rs
 
 module _ (h : Context) (s : Settings) (range : ContextRange h) (r : SettingsRange s) where
-  with-settings : (c : Command) → in_range c ≡ true → OfTypes c → Pairwise (claims_with h s c) (rows_with h s c)
+  with_settings_lem : (c : Command) → in_range c ≡ true → OfTypes c → Pairwise (claims_with h s c) (rows_with h s c)
   unfolding claims_with rows_with
-  with-settings finish i f = tt
-  with-settings (settings x) i f = tt
-  with-settings (joint id j) i f = tt
-  with-settings (column c) i f = (column_holds s.behaviour c (column_range s r c i), tt)
-  with-settings (beam b) i f = (beam_holds s.behaviour b (beam_range s r b f i), tt)
-  with-settings (hingeless id1 id2 m) i f = two-joints (h.joints id1) (h.joints id2) (range.joints id1) (range.joints id2)
+  with_settings_lem finish i f = tt
+  with_settings_lem (settings x) i f = tt
+  with_settings_lem (joint id j) i f = tt
+  with_settings_lem (column c) i f = (column_holds s.behaviour c (column_range s r c i), tt)
+  with_settings_lem (beam b) i f = (beam_holds s.behaviour b (beam_range s r b f i), tt)
+  with_settings_lem (hingeless id1 id2 m) i f = two_joints (h.joints id1) (h.joints id2) (range.joints id1) (range.joints id2)
     where
-      two-joints : (o1 o2 : Option Joint) → ((j : Joint) → o1 ≡ some j → JointRange j) → ((j : Joint) → o2 ≡ some j → JointRange j) →
+      two_joints : (o1 o2 : Option Joint) → ((j : Joint) → o1 ≡ some j → JointRange j) → ((j : Joint) → o2 ≡ some j → JointRange j) →
           Pairwise (when_given o1 (λ i. when_given o2 (λ j. (λ r. Hold (hingeless_claims s i j m r)) ∷ []))) (when_given o1 (λ i. when_given o2 (λ j. hingeless_row s i j m ∷ [])))
-      two-joints none o2 r1 r2 = tt
-      two-joints (some j1) none r1 r2 = tt
-      two-joints (some j1) (some j2) r1 r2 = (hingeless_holds s j1 j2 m (hingeless_range s r j1 j2 (r1 j1 refl) (r2 j2 refl) id1 id2 m f.2 i), tt)
-  with-settings (wall_base b) i f = (base_holds s.behaviour b, tt)
-  with-settings (storey x) i f = of-wall h.wall
+      two_joints none o2 r1 r2 = tt
+      two_joints (some j1) none r1 r2 = tt
+      two_joints (some j1) (some j2) r1 r2 = (hingeless_holds s j1 j2 m (hingeless_range s r j1 j2 (r1 j1 refl) (r2 j2 refl) id1 id2 m f.2 i), tt)
+  with_settings_lem (wall_base b) i f = (base_holds s.behaviour b, tt)
+  with_settings_lem (storey x) i f = of_wall h.wall
     where
-      of-wall : (o : Option WallBase) → Pairwise (when_given o (λ b. (λ r. Hold (storey_claims s.behaviour b x r)) ∷ [])) (when_given o (λ b. storey_row s.behaviour b x ∷ []))
-      of-wall none = tt
-      of-wall (some b) = (storey-holds s.behaviour b x (storey_range x i), tt)
-  with-settings (soil x) i f = tt
-  with-settings (footing x) i f = on-ground h.ground
+      of_wall : (o : Option WallBase) → Pairwise (when_given o (λ b. (λ r. Hold (storey_claims s.behaviour b x r)) ∷ [])) (when_given o (λ b. storey_row s.behaviour b x ∷ []))
+      of_wall none = tt
+      of_wall (some b) = (storey_holds s.behaviour b x (storey_range x i), tt)
+  with_settings_lem (soil x) i f = tt
+  with_settings_lem (footing x) i f = on_ground h.ground
     where
-      on-ground : (o : Option Ground) →
+      on_ground : (o : Option Ground) →
           Pairwise (when_given o (λ g. footing_claim s x g false ∷ footing_claim s x g true ∷ [])) (when_given o (λ g. footing_row s x g.soil g.sensitive false ∷ footing_row s x g.soil g.sensitive true ∷ []))
-      on-ground none = tt
-      on-ground (some g) =
-          let in_range_lem = footing_range s r x f i in
-          (footing_holds s x g.soil g.sensitive false in_range_lem, (footing_holds s x g.soil g.sensitive true in_range_lem, tt))
-  with-settings (detail d) i f = (detail_holds d (detail_range d i), tt)
+      on_ground none = tt
+      on_ground (some g) =
+          let ranged = footing_range s r x f i in
+          (footing_holds s x g.soil g.sensitive false ranged, (footing_holds s x g.soil g.sensitive true ranged, tt))
+  with_settings_lem (detail d) i f = (detail_holds d (detail_range d i), tt)
 
 pub rows_true : (p : Placed) → Good p → Pairwise (claims_of p) (rows_of p.context p.command)
 unfolding claims_of rows_of
-rows_true p g = given-settings p.context.settings g.context.settings
+rows_true p g = given_settings p.context.settings g.context.settings
   where
-    given-settings : (o : Option Settings) → ((s : Settings) → o ≡ some s → SettingsRange s) →
+    given_settings : (o : Option Settings) → ((s : Settings) → o ≡ some s → SettingsRange s) →
         Pairwise (when_given o (λ s. claims_with p.context s p.command)) (when_given o (λ s. rows_with p.context s p.command))
-    given-settings none r = tt
-    given-settings (some s) r = with-settings p.context s g.context (r s refl) p.command g.range g.types
+    given_settings none r = tt
+    given_settings (some s) r = with_settings_lem p.context s g.context (r s refl) p.command g.range g.types

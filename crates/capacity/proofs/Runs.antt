@@ -52,14 +52,14 @@ full_from j ps m e h = let l = le-leb (8 * length (all_rows ps)) (length m) h in
 
 module _ (job : List ℕ) (n : ℕ) (m : List ℤ) (a : Accepted job n) where
   -- too few words
-  pub short-run : length m / 8 < n → (too_short_run n ≡ run_of job (length m)) × (m ≡ rows_after job m)
+  pub short_run : length m / 8 < n → (too_short_run n ≡ run_of job (length m)) × (m ≡ rows_after job m)
   unfolding run_of rows_after
-  short-run h = short_from (placed job) a.commands n m a.is a.count (omega (arith, a.count))
+  short_run h = short_from (placed job) a.commands n m a.is a.count (omega (arith, a.count))
 
   -- room for all
   pub enough : n ≤ length m / 8 → 8 * length (all_rows a.commands) ≤ length m
   enough h = omega (arith, a.count)
 
-  pub full-run : n ≤ length m / 8 → (ran_answer (totals_of (all_rows a.commands)) ≡ run_of job (length m)) × (joined (all_rows a.commands) ++ drop (8 * length (all_rows a.commands)) m ≡ rows_after job m)
+  pub full_run : n ≤ length m / 8 → (ran_answer (totals_of (all_rows a.commands)) ≡ run_of job (length m)) × (joined (all_rows a.commands) ++ drop (8 * length (all_rows a.commands)) m ≡ rows_after job m)
   unfolding run_of rows_after
-  full-run h = full_from (placed job) a.commands m a.is (enough h)
+  full_run h = full_from (placed job) a.commands m a.is (enough h)

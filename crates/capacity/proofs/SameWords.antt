@@ -22,8 +22,8 @@ abbrev put : List ℤ → ℕ → List ℤ → List ℤ
 put rows n m = cond (leb n (length m)) (rows ++ drop n m) m
 
 module _ (rows : List ℤ) (n : ℕ) (h : length rows ≡ n) where
-  put-fits : (m : List ℤ) → n ≤ length m → put rows n m ≡ rows ++ drop n m
-  put-fits m l = rw (le-leb n (length m) l)
+  put_fits : (m : List ℤ) → n ≤ length m → put rows n m ≡ rows ++ drop n m
+  put_fits m l = rw (le-leb n (length m) l)
 
   put_length : (m : List ℤ) → length (put rows n m) ≡ length m
   put_length m = by_test (leb n (length m)) refl
@@ -32,19 +32,19 @@ module _ (rows : List ℤ) (n : ℕ) (h : length rows ≡ n) where
       by_test true e = rw e (length-append rows (drop n m) ∙ omega (arith, length-drop n m, leb-true n (length m) e))
       by_test false e = rw e
 
-  put-twice : (m : List ℤ) → put rows n (put rows n m) ≡ put rows n m
-  put-twice m = by_test (leb n (length m)) refl
+  put_twice : (m : List ℤ) → put rows n (put rows n m) ≡ put rows n m
+  put_twice m = by_test (leb n (length m)) refl
     where
       by_test : (b : Bool) → leb n (length m) ≡ b → put rows n (put rows n m) ≡ put rows n m
       by_test true e =
           let l = leb-true n (length m) e in
-          put-fits (put rows n m) (omega (arith, put_length m)) ∙ ap (λ (x : List ℤ). rows ++ drop n x) (put-fits m l) ∙ ap (λ (x : List ℤ). rows ++ x) (drop_at rows (drop n m) n h) ∙ sym (put-fits m l)
+          put_fits (put rows n m) (omega (arith, put_length m)) ∙ ap (λ (x : List ℤ). rows ++ drop n x) (put_fits m l) ∙ ap (λ (x : List ℤ). rows ++ x) (drop_at rows (drop n m) n h) ∙ sym (put_fits m l)
       by_test false e = rw (e, e)
 
-  put-longer : (m more : List ℤ) → n ≤ length m → put rows n (m ++ more) ≡ put rows n m ++ more
-  put-longer m more l =
-      put-fits (m ++ more) (omega (arith, length-append m more)) ∙ ap (λ (x : List ℤ). rows ++ x) (drop-append-le n m more l) ∙ sym (append_assoc rows (drop n m) more)
-      ∙ ap (λ (x : List ℤ). x ++ more) (sym (put-fits m l))
+  put_longer : (m more : List ℤ) → n ≤ length m → put rows n (m ++ more) ≡ put rows n m ++ more
+  put_longer m more l =
+      put_fits (m ++ more) (omega (arith, length-append m more)) ∙ ap (λ (x : List ℤ). rows ++ x) (drop-append-le n m more l) ∙ sym (append_assoc rows (drop n m) more)
+      ∙ ap (λ (x : List ℤ). x ++ more) (sym (put_fits m l))
 
 -- ---- the same of a job's placed commands
 
@@ -53,7 +53,7 @@ size_of_lem ps = joined_length (all_rows ps) (rows_eight ps)
 
 twice_from : (j : Job) (m : List ℤ) → rows_from j (rows_from j m) ≡ rows_from j m
 twice_from (refused number offset) m = refl
-twice_from (accepted ps) m = put-twice (joined (all_rows ps)) (8 * length (all_rows ps)) (size_of_lem ps) m
+twice_from (accepted ps) m = put_twice (joined (all_rows ps)) (8 * length (all_rows ps)) (size_of_lem ps) m
 
 pub length_from : (j : Job) (m : List ℤ) → length (rows_from j m) ≡ length m
 length_from (refused number offset) m = refl
@@ -69,7 +69,7 @@ fits_from ps words a = by_test (leb (8 * length (all_rows ps)) words) refl
 
 longer_from : (j : Job) (m more : List ℤ) → (run_from j (length m)).accepted ≡ true → rows_from j (m ++ more) ≡ rows_from j m ++ more
 longer_from (refused number offset) m more a = refl
-longer_from (accepted ps) m more a = put-longer (joined (all_rows ps)) (8 * length (all_rows ps)) (size_of_lem ps) m more (fits_from ps (length m) a)
+longer_from (accepted ps) m more a = put_longer (joined (all_rows ps)) (8 * length (all_rows ps)) (size_of_lem ps) m more (fits_from ps (length m) a)
 
 answer_from : (j : Job) (words more : ℕ) → (run_from j words).accepted ≡ true → run_from j (words + more) ≡ run_from j words
 answer_from (refused number offset) words more a = refl
@@ -121,18 +121,18 @@ refused_words job m a = refused_from (placed job) m a
 
 module _ (job : List ℕ) (m : List ℤ) (a : (run_of job (length m)).accepted ≡ true) where
   -- more words behind a slice with room: the same answer, the same words in front, and those as lent
-  pub longer-answer : (more : List ℤ) → run_of job (length (m ++ more)) ≡ run_of job (length m)
+  pub longer_answer : (more : List ℤ) → run_of job (length (m ++ more)) ≡ run_of job (length m)
   unfolding run_of
-  longer-answer more = ap (run_from (placed job)) (length-append m more) ∙ answer_from (placed job) (length m) (length more) a
+  longer_answer more = ap (run_from (placed job)) (length-append m more) ∙ answer_from (placed job) (length m) (length more) a
 
-  pub longer-words : (more : List ℤ) → rows_after job (m ++ more) ≡ rows_after job m ++ more
+  pub longer_words : (more : List ℤ) → rows_after job (m ++ more) ≡ rows_after job m ++ more
   unfolding run_of rows_after
-  longer-words more = longer_from (placed job) m more a
+  longer_words more = longer_from (placed job) m more a
 
   -- every word after the rows is as lent
-  pub later-words : drop (8 * (run_of job (length m)).rows) (rows_after job m) ≡ drop (8 * (run_of job (length m)).rows) m
+  pub later_words : drop (8 * (run_of job (length m)).rows) (rows_after job m) ≡ drop (8 * (run_of job (length m)).rows) m
   unfolding run_of rows_after
-  later-words = later_from (placed job) m a
+  later_words = later_from (placed job) m a
 
   -- any two slices with room hold the same rows
   pub same_rows : (k : List ℤ) → (run_of job (length k)).accepted ≡ true →

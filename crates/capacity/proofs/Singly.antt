@@ -12,14 +12,14 @@ use Rattle.format.specs.declared.Command.TheVariants.{Storey as storey}
 use Rattle.format.proofs.RangeTest.{and_first, and_second}
 use Rattle.blocks.specs.Sets.{count_in_range, all_in_range}
 use Rattle.blocks.specs.FileCommands.{FileCommand, block, given, singly}
-use Rattle.blocks.proofs.Sets.{each-in-range}
+use Rattle.blocks.proofs.Sets.{each_in_range}
 use Rattle.writing.specs.Files.{AllWritable}
 use Rattle.context.specs.Context.{nothing}
 use Rattle.job.specs.Placed.{Placed, Entry, placed_all, accepted, all_rows}
 use Rattle.job.proofs.PlacedCases.{listed_of, placed_of_lem}
-use Rattle.job.proofs.Passing.{Passes, passes-singly, passes-block}
+use Rattle.job.proofs.Passing.{Passes, passes_singly, passes_block}
 use Rattle.capacity.specs.Singly.{file_of, without_offsets, Accepts, BlockStands, BlocksStand}
-use Rattle.capacity.proofs.FileListed.{entries_from, file-accepted, file-passes, given_all, rows_alike}
+use Rattle.capacity.proofs.FileListed.{entries_from, file_accepted, file_passes, given_all, rows_alike}
 
 writable_both : (cs ds : List FileCommand) → AllWritable cs → AllWritable ds → AllWritable (cs ++ ds)
 writable_both [] ds v w = w
@@ -27,7 +27,7 @@ writable_both (c ∷ cs) ds v w = (v.0, writable_both cs ds v.1 w)
 
 singly_writable : (ss : List Storey) → all_in_range ss ≡ true → AllWritable (singly ss)
 singly_writable [] r = tt
-singly_writable (s ∷ ss) r = let e = each-in-range s ss r in (record { types = tt; range = e.0; other = λ z. omega arith }, singly_writable ss e.1)
+singly_writable (s ∷ ss) r = let e = each_in_range s ss r in (record { types = tt; range = e.0; other = λ z. omega arith }, singly_writable ss e.1)
 
 -- both files give the same commands
 given_singly : (ss : List Storey) (ds : List FileCommand) → given_all (singly ss ++ ds) ≡ map (λ s. storey s) ss ++ given_all ds
@@ -42,12 +42,12 @@ same_given (c ∷ cs) ss ds = ap (λ (l : List Command). given c ++ l) (same_giv
 accepted_too : (xs ys : List FileCommand) → AllWritable xs → AllWritable ys → (Passes 0 nothing xs → Passes 0 nothing ys) → given_all xs ≡ given_all ys → (rows : List (List ℤ)) → Accepts (file_of xs) rows → Accepts (file_of ys) rows
 accepted_too xs ys v w f g rows a =
     let (es, l, q) = listed_of (file_of xs) a.commands a.is_accepted in
-    let p = file-passes xs v es l in
-    let own : accepted (entries_from 0 nothing xs) ≡ accepted es = sym (file-accepted xs v p) ∙ l in
+    let p = file_passes xs v es l in
+    let own : accepted (entries_from 0 nothing xs) ≡ accepted es = sym (file_accepted xs v p) ∙ l in
     let same : entries_from 0 nothing xs ≡ es = cc in
     record {
       commands = placed_all (entries_from 0 nothing ys);
-      is_accepted = placed_of_lem (file_of ys) (entries_from 0 nothing ys) (file-accepted ys w (f p));
+      is_accepted = placed_of_lem (file_of ys) (entries_from 0 nothing ys) (file_accepted ys w (f p));
       rows_are = sym (rows_alike xs ys g) ∙ ap (λ (es : List Entry). without_offsets (all_rows (placed_all es))) same ∙ ap (λ (ps : List Placed). without_offsets (all_rows ps)) q ∙ a.rows_are;
     }
 
@@ -58,8 +58,8 @@ blocks_stand cs ss ds v (b, u) w =
     let with-block = writable_both cs (block ss ∷ ds) v (b, w) in
     let with-storeys = writable_both cs (singly ss ++ ds) v (writable_both (singly ss) ds (singly_writable ss range) w) in
     record {
-      singly_too = accepted_too (cs ++ block ss ∷ ds) (cs ++ (singly ss ++ ds)) with-block with-storeys (passes-singly ss ds 0 nothing cs) (same_given cs ss ds);
-      block_too = accepted_too (cs ++ (singly ss ++ ds)) (cs ++ block ss ∷ ds) with-storeys with-block (passes-block ss ds many 0 nothing cs (omega arith)) (sym (same_given cs ss ds));
+      singly_too = accepted_too (cs ++ block ss ∷ ds) (cs ++ (singly ss ++ ds)) with-block with-storeys (passes_singly ss ds 0 nothing cs) (same_given cs ss ds);
+      block_too = accepted_too (cs ++ (singly ss ++ ds)) (cs ++ block ss ∷ ds) with-storeys with-block (passes_block ss ds many 0 nothing cs (omega arith)) (sym (same_given cs ss ds));
     }
 
 -- a block of one is a storey

@@ -15,11 +15,11 @@ use Rattle.layout.proofs.Numbers.{Bytes}
 use Rattle.job.specs.Placed.{Placed, placed_all, accepted, placed, all_rows}
 use Rattle.job.specs.LatestWall.{wall_after, carried_row, AtStorey}
 use Rattle.job.proofs.PlacedCases.{listed_of}
-use Rattle.job.proofs.Reached.{reached-accepted}
+use Rattle.job.proofs.Reached.{reached_accepted}
 use Rattle.job.proofs.LatestWall.{at_every_storey}
 use Rattle.capacity.specs.Calls.{rows_after}
 use Rattle.capacity.specs.DemandThree.{row_read}
-use Rattle.capacity.proofs.RowRead.{row_read}
+use Rattle.capacity.proofs.RowRead.{row_read_lem}
 
 -- ---- the words of a storey
 
@@ -34,19 +34,19 @@ pub record StoreyOf (job : List ℕ) (earlier : List Placed) (s : Storey) : Type
   pub is_storey : this.command ≡ storey s
 
 module _ (job : List ℕ) (earlier : List Placed) (s : Storey) (t : StoreyOf job earlier s) where
-  at-storey : AtStorey job earlier t.this s
-  at-storey =
+  at_storey : AtStorey job earlier t.this s
+  at_storey =
       let (es, l, q) = listed_of job t.commands t.is_accepted in
-      at_every_storey job t.bytes earlier t.this t.later (ap placed_all (reached-accepted job es l) ∙ q ∙ t.place) s t.is_storey
+      at_every_storey job t.bytes earlier t.this t.later (ap placed_all (reached_accepted job es l) ∙ q ∙ t.place) s t.is_storey
 
   -- words 2 to 7, from the running values and the operands
-  pub storey-words : (m : List ℤ) → 8 * length (all_rows t.commands) ≤ length m → row_read (rows_after job m) (length (all_rows earlier)) ≡ carried_row (wall_after earlier) s
-  storey-words m l = row_read job t.commands t.is_accepted earlier t.this t.later t.place 7 (carried_row (wall_after earlier) s) at-storey.row m l
+  pub storey_words : (m : List ℤ) → 8 * length (all_rows t.commands) ≤ length m → row_read (rows_after job m) (length (all_rows earlier)) ≡ carried_row (wall_after earlier) s
+  storey_words m l = row_read_lem job t.commands t.is_accepted earlier t.this t.later t.place 7 (carried_row (wall_after earlier) s) at_storey.row m l
 
   positive : 0 < (wall_after earlier).coefficient.den
   positive =
-      let k = at-storey.carries in
-      let b = at-storey.base in
+      let k = at_storey.carries in
+      let b = at_storey.base in
       subst (λ (a : Fraction). 0 < a.den) (sym k.coefficient) (proper 130 b.resistance b.moment k.settings.behaviour)
 
 -- two storeys with the same operands, in two jobs or in one: where the walk carries the same values at both, the words are the same,
@@ -55,4 +55,4 @@ pub same_storey_words : (s : Storey) (job other : List ℕ) (earlier before : Li
     (m k : List ℤ) → 8 * length (all_rows t.commands) ≤ length m → 8 * length (all_rows u.commands) ≤ length k →
     row_read (rows_after job m) (length (all_rows earlier)) ≡ row_read (rows_after other k) (length (all_rows before))
 same_storey_words s job other earlier before t u v m k l w =
-    storey-words job earlier s t m l ∙ same_storey_row (wall_after earlier) (wall_after before) (positive job earlier s t) (positive other before s u) v s ∙ sym (storey-words other before s u k w)
+    storey_words job earlier s t m l ∙ same_storey_row (wall_after earlier) (wall_after before) (positive job earlier s t) (positive other before s u) v s ∙ sym (storey_words other before s u k w)

@@ -16,7 +16,7 @@ use Rattle.job.specs.Placed.{Placed, Entry, placed_all, Listing, accepted, liste
 use Rattle.job.specs.Walking.{Final, first_place, no_joints, walk_from}
 use Rattle.job.proofs.PlacedCases.{listed_of}
 use Rattle.job.proofs.Simulation.{Matches}
-use Rattle.job.proofs.Begin.{zero_sums, begin-matches}
+use Rattle.job.proofs.Begin.{zero_sums, begin_matches}
 
 -- every row has eight words
 pub rows_eight : (ps : List Placed) → Eights (all_rows ps)
@@ -46,4 +46,4 @@ walk_writes job m b ps e h =
     let (es, l, q) = listed_of job ps e in
     let f = walk_from room 4097 job first_place (no_joints (replicate 768 0)) m in
     subst (λ (xs : List Placed). f.memory ≡ joined (all_rows xs) ++ drop (8 * length (all_rows xs)) m) q
-    (memory_of job (listed job) es f m l (begin-matches room (replicate 768 0) (zero_sums room) job m b refl) (rw q h))
+    (memory_of job (listed job) es f m l (begin_matches room (replicate 768 0) (zero_sums room) job m b refl) (rw q h))

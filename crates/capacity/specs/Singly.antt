@@ -1,6 +1,6 @@
 -- A block stands for its storeys. 02, No. 7: "Its rows are those of the same storeys given singly, word 1 being 07, except that word 0
 -- is the offset of each set's first byte." A file is given by its commands, written one after the other, with its end; every accepted
--- job is such a file (proofs/WrittenAgain.antt, `job-again`). And what demand 3 claims of a storey holds for those of a block.
+-- job is such a file (proofs/WrittenAgain.antt, `job_again`). And what demand 3 claims of a storey holds for those of a block.
 use Rattle.std.specs.Prelude.{◌≡◌, List, [], ◌∷◌, ◌++◌, map, ℕ, ◌+◌, ◌*◌, ◌≤◌, ℤ, length, drop}
 use Rattle.std.proofs.Math.Option.{some}
 use Rattle.coefficient.specs.declared.Settings.{Settings}

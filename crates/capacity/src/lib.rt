@@ -1,6 +1,8 @@
 // The calls: size, fault, run, take-down, write, write_block and page. None has a `requires`. 01, "Calls"; 02, No. 2, No. 3, No. 7 and
 // No. 8.
 // The papers leave no value of these calls free: each answer, each lent word and each lent byte is promised by equation.
+#![tactic(auto)]
+
 ghost use Rattle.std.specs.Prelude.{◌≡◌, true, length};
 ghost use Rattle.cubes.specs.Cube.{LentCubes};
 ghost use Rattle.format.specs.Reading.{command_at};
@@ -10,7 +12,7 @@ ghost use Rattle.job.specs.Answers.{row_count_answer, size_of, fault_of};
 ghost use Rattle.blocks.specs.FileCommands.{file_command_at};
 ghost use Rattle.writing.specs.Answers.{answer_of as write_answer, write_of, bytes_after};
 ghost use Rattle.writing.specs.BlockGiven.{block_of, write_block_of, block_bytes_after};
-ghost use Rattle.printing.specs.Answers.{page_answer, page_of, bytes_after as pageAfter};
+ghost use Rattle.printing.specs.Answers.{page_answer, page_of, bytes_after as page_after};
 ghost use Rattle.capacity.specs.Calls.{run_answer, run_of, rows_after, Writes};
 ghost use Rattle.capacity.specs.DemandThree.{DemandThree};
 
@@ -22,7 +24,7 @@ use totals::Totals;
 use writing::Written;
 
 // The answer of run. `run_answer` gives 01's number, offset and rows of each case.
-#[derive(Drop)]
+#[derive(Clone, Copy)]
 pub enum Ran {
     // The rows written, those failed, and the checks failed.
     Rows(Totals),
@@ -74,7 +76,7 @@ pub fn write_block(count: u32, sets: &[u32], bytes: &mut [u8]) -> Written
 // The page of the first n rows, written from the slice's first byte on.
 pub fn page(rows: &[i64], n: usize, bytes: &mut [u8]) -> Printed
     ensures answer { page_answer result ≡ page_of rows.now n (length bytes.old) }
-    ensures bytes { bytes.new ≡ pageAfter rows.now n bytes.old }
+    ensures bytes { bytes.new ≡ page_after rows.now n bytes.old }
 {
     printing::page(rows, n, bytes)
 }

@@ -1,4 +1,2 @@
--- What the calls that write answer for other languages: a command's promise as a struct; a soil value that is no number.
--- Assumes nothing.
-mod Exports
+-- What the calls that write answer for other languages of a soil value that is no number. Assumes nothing.
 pub mod NanRefused

@@ -12,7 +12,7 @@ use Rattle.layout.specs.Layouts.{forms_of}
 use Rattle.format.specs.Commands.{operands_of, related, all_in_range, in_range}
 use Rattle.blocks.specs.FileCommands.{one}
 use Rattle.writing.specs.Answers.{refused_with, write_of, bytes_after}
-use Rattle.writing.proofs.Answered.{answer-5, slice-5}
+use Rattle.writing.proofs.Answered.{answer_5, slice_5}
 use Rattle.capacity_c.specs.declared.writes.SoilOperands.{SoilOperands}
 use Rattle.capacity_c.specs.Commands.{soil_command}
 
@@ -29,8 +29,8 @@ unfolding in_range related
 outside v e = rw (bits_not_allowed v.kind v.value e) (and-false (all_in_range (forms_of 8) (operands_of (soil_command v))))
 
 module _ (v : SoilOperands) (e : v.value ≡ nan) where
-  pub nan-refused : (room : ℕ) → write_of (soil_command v) room ≡ refused_with 5
-  nan-refused room = answer-5 (one (soil_command v)) (outside v e) room
+  pub nan_refused : (room : ℕ) → write_of (soil_command v) room ≡ refused_with 5
+  nan_refused room = answer_5 (one (soil_command v)) (outside v e) room
 
-  pub nan-unwritten : (before : List ℕ) → bytes_after (soil_command v) before ≡ before
-  nan-unwritten before = slice-5 (one (soil_command v)) (outside v e) before
+  pub nan_unwritten : (before : List ℕ) → bytes_after (soil_command v) before ≡ before
+  nan_unwritten before = slice_5 (one (soil_command v)) (outside v e) before

@@ -1,10 +1,12 @@
 // The calls for programs in other languages: include/eak_capacity.h declares them. None has a `requires`, and each contract is
 // that of the same call in `capacity`, its answer as a struct. 01, "Calls".
+#![tactic(auto)]
+
 ghost use Rattle.std.specs.Prelude.{◌≡◌, true, false, length};
 ghost use Rattle.soil.specs.Answers.{answer_of};
 ghost use Rattle.soil.specs.Taken.{take_down};
 ghost use Rattle.job.specs.Answers.{row_count_answer, size_of, fault_of};
-ghost use Rattle.printing.specs.Answers.{page_answer, page_of, bytes_after as pageAfter};
+ghost use Rattle.printing.specs.Answers.{page_answer, page_of, bytes_after as page_after};
 ghost use Rattle.capacity.specs.Calls.{run_answer, run_of, rows_after};
 ghost use Rattle.capacity.specs.DemandThree.{DemandThree};
 ghost use Rattle.capacity_c.specs.Exported.{job_answer, ran_answer, fault_found, soil_answer, printed_answer};
@@ -18,7 +20,7 @@ mod writes; // writes.rt: the calls that write a command
 
 // The answer of size.
 #[repr(C)]
-#[derive(Drop)]
+#[derive(Clone, Copy)]
 pub struct JobAnswer {
     pub accepted: bool,
     pub number: u32,
@@ -28,7 +30,7 @@ pub struct JobAnswer {
 
 // The answer of run.
 #[repr(C)]
-#[derive(Drop)]
+#[derive(Clone, Copy)]
 pub struct RanAnswer {
     pub accepted: bool,
     pub number: u32,
@@ -41,7 +43,7 @@ pub struct RanAnswer {
 
 // The answer of take-down.
 #[repr(C)]
-#[derive(Drop)]
+#[derive(Clone, Copy)]
 pub struct SoilAnswer {
     pub number: u32,
     pub offset: u32,
@@ -50,7 +52,7 @@ pub struct SoilAnswer {
 
 // The answer of fault.
 #[repr(C)]
-#[derive(Drop)]
+#[derive(Clone, Copy)]
 pub struct FaultFound {
     pub number: u32,
     pub offset: usize,
@@ -60,7 +62,7 @@ pub struct FaultFound {
 
 // The answer of page.
 #[repr(C)]
-#[derive(Drop)]
+#[derive(Clone, Copy)]
 pub struct PrintedAnswer {
     pub number: u32,
     pub offset: usize,
@@ -204,7 +206,7 @@ pub extern "C" fn eak_run(job: &[u8], rows: &mut [i64]) -> RanAnswer
 #[unsafe(no_mangle)]
 pub extern "C" fn eak_page(rows: &[i64], n: usize, bytes: &mut [u8]) -> PrintedAnswer
     ensures answer { result ≡ printed_answer (page_of rows.now n (length bytes.old)) }
-    ensures bytes { bytes.new ≡ pageAfter rows.now n bytes.old }
+    ensures bytes { bytes.new ≡ page_after rows.now n bytes.old }
 {
     paged(capacity::page(rows, n, bytes))
 }

@@ -18,7 +18,7 @@ use writing::Written;
 
 // The answer of the calls that write.
 #[repr(C)]
-#[derive(Drop)]
+#[derive(Clone, Copy)]
 pub struct WriteAnswer {
     pub number: u32,
     pub offset: usize,
@@ -28,7 +28,7 @@ pub struct WriteAnswer {
 // ---- the values of each command, in the file's order
 
 #[repr(C)]
-#[derive(Drop)]
+#[derive(Clone, Copy)]
 pub struct SettingsOperands {
     pub q: u32,
     pub gj: u32,
@@ -36,7 +36,7 @@ pub struct SettingsOperands {
 }
 
 #[repr(C)]
-#[derive(Drop)]
+#[derive(Clone, Copy)]
 pub struct JointOperands {
     pub id: u32,
     pub rb: u32,
@@ -45,7 +45,7 @@ pub struct JointOperands {
 }
 
 #[repr(C)]
-#[derive(Drop)]
+#[derive(Clone, Copy)]
 pub struct ColumnOperands {
     pub length: u32,
     pub r1plus: u32,
@@ -57,7 +57,7 @@ pub struct ColumnOperands {
 }
 
 #[repr(C)]
-#[derive(Drop)]
+#[derive(Clone, Copy)]
 pub struct BeamOperands {
     pub length: u32,
     pub r1plus: u32,
@@ -70,7 +70,7 @@ pub struct BeamOperands {
 }
 
 #[repr(C)]
-#[derive(Drop)]
+#[derive(Clone, Copy)]
 pub struct HingelessOperands {
     pub length: u32,
     pub id1: u32,
@@ -82,7 +82,7 @@ pub struct HingelessOperands {
 }
 
 #[repr(C)]
-#[derive(Drop)]
+#[derive(Clone, Copy)]
 pub struct WallBaseOperands {
     pub length: u32,
     pub thickness: u32,
@@ -93,7 +93,7 @@ pub struct WallBaseOperands {
 }
 
 #[repr(C)]
-#[derive(Drop)]
+#[derive(Clone, Copy)]
 pub struct StoreyOperands {
     pub me: u32,
     pub ve: u32,
@@ -104,7 +104,7 @@ pub struct StoreyOperands {
 }
 
 #[repr(C)]
-#[derive(Drop)]
+#[derive(Clone, Copy)]
 pub struct SoilOperands {
     pub kind: u32,
     pub value: f32,
@@ -112,7 +112,7 @@ pub struct SoilOperands {
 }
 
 #[repr(C)]
-#[derive(Drop)]
+#[derive(Clone, Copy)]
 pub struct FootingOperands {
     pub b: u32,
     pub l: u32,
@@ -132,7 +132,7 @@ pub struct FootingOperands {
 }
 
 #[repr(C)]
-#[derive(Drop)]
+#[derive(Clone, Copy)]
 pub struct DetailOperands {
     pub place: u32,
     pub xu: u32,

@@ -1,7 +1,7 @@
 -- The claims of a check and of a verdict bit from those of its demand and its strength. Assumes nothing.
 use mathlib.Core.Logic.{◌⊎◌, inl, inr}
 use mathlib.Core.Bool.{Bool, true, false}
-use Prim.Native.Nat.{ℕ, ◌+◌, ◌*◌, ◌≤◌, ◌<◌}
+use Prim.Native.Nat.{ℕ, ◌+◌, ◌*◌, ◌≤◌}
 use native.Mathlib.Omega.{arith}
 use Rattle.exact.specs.Fraction.{Fraction, Proper, ◌+F◌}
 use Rattle.exact.specs.SignedFraction.{SignedFraction, ProperS, whole_s, signed, ◌≤S◌, ◌<S◌, ◌+S◌, ◌-S◌}
@@ -35,8 +35,8 @@ module _ (r s t : SignedFraction) (a b : Fraction) (ps : ProperS s) (pb : Proper
   raised k = omega (arith, k · (b.den * b.den))
 
   -- t ≤ s + b, s ≤ r
-  lowered-short : t ≤S (s +S signed b) → s ≤S r → (t -S signed (a +F b)) ≤S (r -S signed a)
-  lowered-short h k =
+  lowered_short : t ≤S (s +S signed b) → s ≤S r → (t -S signed (a +F b)) ≤S (r -S signed a)
+  lowered_short h k =
       let l = ≤S_trans t (s +S signed b) (r +S signed b) (pos_mul ps pb) h (raised k) in
       shifted r t a b l
 
@@ -76,10 +76,10 @@ check_holds c pe pa below excess strength guard =
 
     lower : (t ≤S s) ⊎ (t <S (s +S signed b)) → s ≤S r → (t -S signed (a +F b)) ≤S (r -S signed a)
     lower (inl h) k = lowered r s t a b strength.proper_reported strength.proper_amount h k
-    lower (inr h) k = lowered-short r s t a b strength.proper_reported strength.proper_amount (omega arith) k
+    lower (inr h) k = lowered_short r s t a b strength.proper_reported strength.proper_amount (omega arith) k
 
-    absurd-if : s ≤S r → Clear c → ⊥
-    absurd-if k clear =
+    absurd_if : s ≤S r → Clear c → ⊥
+    absurd_if k clear =
         excess (guard clear)
         (at_least_mono e (t -S signed (a +F b)) (r -S signed a) (pos_mul strength.proper (pos_mul pa strength.proper_amount)) (lower strength.short k) clear)
 
@@ -88,9 +88,9 @@ check_holds c pe pa below excess strength guard =
       where
         decided : (r ≤S s) ⊎ (s <S r) → r ≤S s
         decided (inl h) = h
-        decided (inr h) = absurd (absurd-if (omega arith) clear)
+        decided (inr h) = absurd (absurd_if (omega arith) clear)
     clears true clear = decided (≤S_or s r)
       where
         decided : (s ≤S r) ⊎ (r <S s) → r <S s
-        decided (inl h) = absurd (absurd-if h clear)
+        decided (inl h) = absurd (absurd_if h clear)
         decided (inr h) = h

@@ -26,9 +26,9 @@ no : (t : Bool) → (t ≡ true → ⊥) → t ≡ false
 no true h = absurd (h refl)
 no false h = refl
 
-pub tells : (t : Bool) (CapGoverns : Type 0) (design ofCap ofResistances : ℤ) → (t ≡ true → CapGoverns) → (CapGoverns → t ≡ true) →
-    (t ≡ true → design ≡ ofCap) → (t ≡ false → design ≡ ofResistances) → Tells (pos (flag 1 t)) CapGoverns design ofCap ofResistances
-tells t CapGoverns design ofCap ofResistances there back capped free =
+pub tells : (t : Bool) (CapGoverns : Type 0) (design of_cap of_resistances : ℤ) → (t ≡ true → CapGoverns) → (CapGoverns → t ≡ true) →
+    (t ≡ true → design ≡ of_cap) → (t ≡ false → design ≡ of_resistances) → Tells (pos (flag 1 t)) CapGoverns design of_cap of_resistances
+tells t CapGoverns design of_cap of_resistances there back capped free =
     record {
       one = (λ e. there (is_one t e), λ h. one_of t (back h));
       zero = (λ e h. true≢false (sym (back h) ∙ is_zero t e), λ n. zero_of t (no t (λ e. n (there e))));

@@ -1,10 +1,12 @@
 // The words of a row that a rule makes, and the bits of its verdict. What demand 3 claims of a row is in specs/.
+#![tactic(auto)]
+
 ghost use Rattle.std.specs.Prelude.{◌≡◌, ◌+◌, ◌^◌, ◌≤◌, ◌<◌, pos};
 ghost use Rattle.claims.specs.Verdict.{flag};
 ghost use Rattle.claims.specs.Words.{packed_row};
 
 // Words 2 to 7 of a row; word 7 is the verdict, 0 for passed.
-#[derive(Drop)]
+#[derive(Clone, Copy)]
 pub struct Row {
     pub word2: i64,
     pub word3: i64,

@@ -11,7 +11,7 @@ use Rattle.exact.specs.Fraction.{Fraction, Proper, whole, ratio, le_f, smaller, 
 use Rattle.exact.proofs.Multiply.{◌·◌}
 use Rattle.exact.proofs.Rounding.{up_le_of}
 use Rattle.coefficient.specs.declared.Quotient.{Quotient}
-use Rattle.coefficient.specs.Coefficient.{coefficient_of, fraction, CoefficientRange, ProductFits}
+use Rattle.coefficient.specs.Coefficient.{coefficient_of, fraction, CoefficientRange, ProductFits, Capped}
 
 -- a claim of both is a claim of the smaller
 pub smaller_either : (x y : Fraction) (P : Fraction → Type 0) → P x → P y → P (smaller x y)
@@ -100,3 +100,15 @@ product_fits a x n d h = record { fits = omega (arith, mul-le-mul n h); positive
 pub coefficient_fits : {g R E q x : ℕ} {a : Quotient} → fraction a ≡ coefficient_of g R E q → CoefficientRange g R E q → x ≤ 100000000 → ProductFits a x
 coefficient_fits {g} {R} {E} {q} {x} {a} e r h =
     product_fits a x (omega (arith, ap (λ (f : Fraction). f.num) e, num_le g R E q r)) (omega (arith, ap (λ (f : Fraction). f.den) e, proper g R E q)) h
+
+-- all these bounds of a coefficient
+pub coefficient_capped : {g R E q : ℕ} (a : Quotient) → fraction a ≡ coefficient_of g R E q → CoefficientRange g R E q → Capped a
+coefficient_capped {g} {R} {E} {q} a e r =
+    let n = ap (λ (x : Fraction). x.num) e in
+    let d = ap (λ (x : Fraction). x.den) e in
+    record {
+      positive = omega (arith, d, proper g R E q);
+      num = omega (arith, n, num_le g R E q r);
+      den = omega (arith, d, den_le g R E q r);
+      cap = omega (arith, n, d, cap_le g R E q r.behaviour);
+    }

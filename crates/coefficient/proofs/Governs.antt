@@ -2,7 +2,7 @@
 use mathlib.Core.Path.{◌≡◌, refl, sym, ap, ◌∙◌, subst}
 use mathlib.Core.Bool.{Bool, true, false, ◌||◌, true≢false}
 use mathlib.Core.Logic.{◌⊎◌, inl, inr}
-use Prim.Native.Nat.{ℕ, ◌*◌, ◌≤◌, ◌<◌}
+use Prim.Native.Nat.{ℕ, ◌*◌}
 use native.Mathlib.Omega.{arith}
 use native.Mathlib.Decide.{ℕ_discrete}
 use native.Mathlib.Nat.{mul-le-mul_left, lt_of_mul-lt-mul_right}
@@ -68,8 +68,8 @@ module _ (g R E q : ℕ) where
   cap = ratio q 100
 
   -- where a flag set makes a the cap, a below the cap makes it clear
-  clear-below : (cap_governs g R E q ≡ true → coefficient_of g R E q ≡ cap) → coefficient_of g R E q <F cap → cap_governs g R E q ≡ false
-  clear-below set h = by (cap_governs g R E q) refl
+  clear_below : (cap_governs g R E q ≡ true → coefficient_of g R E q ≡ cap) → coefficient_of g R E q <F cap → cap_governs g R E q ≡ false
+  clear_below set h = by (cap_governs g R E q) refl
     where
       by : (t : Bool) → cap_governs g R E q ≡ t → cap_governs g R E q ≡ false
       by true e = absurd (omega (arith, subst (λ (x : Fraction). x <F cap) (set e) h))
@@ -83,7 +83,7 @@ module _ (g R E q : ℕ) where
         set = λ e. zero_value g R E q z;
         greater = λ e other l. (zero_value g other E q z ∙ sym (zero_value g R E q z), zero_governs g other E q z);
         clear = λ e. absurd (true≢false (sym (zero_governs g R E q z) ∙ e));
-        below = clear-below (λ e. zero_value g R E q z);
+        below = clear_below (λ e. zero_value g R E q z);
         neither = λ n. absurd (n z);
       }
 
@@ -100,7 +100,7 @@ module _ (g R E q : ℕ) where
             let k = t.greater (sym f ∙ e) (ratio (g * other) (100 * E)) (omega arith) (omega (arith, mul-le-mul_left g l · (100 * E))) in
             (coefficient_else g other E q n ∙ k.0 ∙ sym v, else_governs g other E q n ∙ k.1);
         clear = λ e. v ∙ t.clear (sym f ∙ e);
-        below = clear-below (λ e. v ∙ t.set (sym f ∙ e));
+        below = clear_below (λ e. v ∙ t.set (sym f ∙ e));
         neither = λ _ e h. omega (arith, e, subst (λ (x : Fraction). x <F cap) (v ∙ t.clear (t.equal e)) h);
       }
     where

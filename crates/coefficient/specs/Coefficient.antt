@@ -29,3 +29,10 @@ pub record CoefficientRange (g R E q : ℕ) : Type 0 where
 pub record ProductFits (a : Quotient) (x : ℕ) : Type 0 where
   pub fits : a.num * x < 2 ^ 64
   pub positive : 0 < a.den
+
+-- a coefficient of operands in range: q is at most 400, so it is at most 4
+pub record Capped (a : Quotient) : Type 0 where
+  pub positive : 0 < a.den
+  pub num : a.num ≤ 20000000000
+  pub den : a.den ≤ 10000000000
+  pub cap : a.num ≤ 4 * a.den

@@ -1,12 +1,14 @@
 // The capacity coefficient, 01, "Capacity coefficient": a = g·R/(100·E), at most q/100; E = 0 gives q/100. It stays an exact
 // fraction, a pair of whole numbers. The smaller-of function serves it, the column and the beam, and tells whether the cap governs
 // (02, No. 5).
+#![tactic(auto)]
+
 ghost use Rattle.std.specs.Prelude.{◌≡◌, ◌*◌, ◌<◌};
 ghost use Rattle.exact.specs.Fraction.{whole, ◌*F◌, up_f, lt_f, smaller as smaller_of};
 ghost use Rattle.coefficient.specs.Coefficient.{fraction, coefficient_of, cap_governs, Comparable, CoefficientRange, ProductFits};
 
 // Hundredths: q, the behaviour factor; gj and gf, the overstrengths of joints and of foundations.
-#[derive(Drop)]
+#[derive(Clone, Copy)]
 pub struct Settings {
     pub behaviour: u32,
     pub joints: u32,
@@ -14,14 +16,14 @@ pub struct Settings {
 }
 
 // num / den, never reduced, never rounded.
-#[derive(Drop)]
+#[derive(Clone, Copy)]
 pub struct Quotient {
     pub num: u64,
     pub den: u64,
 }
 
 // A term limited by its cap: the smaller of both, and whether the cap governs.
-#[derive(Drop)]
+#[derive(Clone, Copy)]
 pub struct Limited {
     pub value: Quotient,
     pub governs: bool,

@@ -77,27 +77,27 @@ pub missing_flag : {A : Type 0} (b : Bool) (o : Option A) → given o ≡ b → 
 missing_flag b o e = missing_is o ∙ ap not e
 
 module _ (room : Bool) (t : State) (table : JointTable) (h : Context) (s : Shows room t table h) where
-  pub settings-given : given h.settings ≡ t.given
-  settings-given = given_shown t.given t.settings h.settings s.settings
+  pub settings_given_lem : given h.settings ≡ t.given
+  settings_given_lem = given_shown t.given t.settings h.settings s.settings
 
-  ground-given : given h.ground ≡ t.founded
-  ground-given = given_shown t.founded (record { soil = t.soil; sensitive = t.sensitive }) h.ground s.ground
+  ground_given : given h.ground ≡ t.founded
+  ground_given = given_shown t.founded (record { soil = t.soil; sensitive = t.sensitive }) h.ground s.ground
 
-  pub absent-same : (c : Command) → IdsFit c → absent_in t table.given c ≡ absent h c
+  pub absent_same : (c : Command) → IdsFit c → absent_in t table.given c ≡ absent h c
   unfolding absent_in absent
-  absent-same finish i = refl
-  absent-same (settings x) i = refl
-  absent-same (joint id j) i = refl
-  absent-same (column c) i = refl
-  absent-same (beam b) i = refl
-  absent-same (hingeless id1 id2 m) i =
+  absent_same finish i = refl
+  absent_same (settings x) i = refl
+  absent_same (joint id j) i = refl
+  absent_same (column c) i = refl
+  absent_same (beam b) i = refl
+  absent_same (hingeless id1 id2 m) i =
       sym (ap₂ ◌||◌ (missing_flag (joint_given table.given id1) (h.joints id1) (s.flags id1 i.0))
       (missing_flag (joint_given table.given id2) (h.joints id2) (s.flags id2 i.1)))
-  absent-same (wall_base b) i = refl
-  absent-same (storey x) i = sym (missing_flag t.walled h.wall s.walled)
-  absent-same (soil x) i = refl
-  absent-same (footing f) i = sym (missing_flag t.founded h.ground ground-given)
-  absent-same (detail d) i = refl
+  absent_same (wall_base b) i = refl
+  absent_same (storey x) i = sym (missing_flag t.walled h.wall s.walled)
+  absent_same (soil x) i = refl
+  absent_same (footing f) i = sym (missing_flag t.founded h.ground ground_given)
+  absent_same (detail d) i = refl
 
 -- ---- after a command
 
@@ -136,16 +136,16 @@ module _ (sums : List ℕ) (id : ℕ) (j : Joint) (size : length sums ≡ 768) (
   own3 : get_or with3 (3 * id + 2) 0 ≡ j.seismic
   own3 = get_or-set_same with2 (3 * id + 2) j.seismic 0 (omega (arith, length2))
 
-  held-own : joint_held with3 id ≡ j
-  held-own = rw (own1, own2, own3)
+  held_own : joint_held with3 id ≡ j
+  held_own = rw (own1, own2, own3)
 
   -- a word that is none of the three
   kept : (i : ℕ) → (i ≡ 3 * id → ⊥) → (i ≡ 3 * id + 1 → ⊥) → (i ≡ 3 * id + 2 → ⊥) → get_or with3 i 0 ≡ get_or sums i 0
   kept i a b c =
       get_or-set_other with2 (3 * id + 2) i j.seismic 0 c ∙ get_or-set_other with1 (3 * id + 1) i j.columns 0 b ∙ get_or-set_other sums (3 * id) i j.beams 0 a
 
-  held-other : (k : ℕ) → (k ≡ id → ⊥) → joint_held with3 k ≡ joint_held sums k
-  held-other k n =
+  held_other : (k : ℕ) → (k ≡ id → ⊥) → joint_held with3 k ≡ joint_held sums k
+  held_other k n =
       rw (
         kept (3 * k) (omega arith) (omega arith) (omega arith),
         kept (3 * k + 1) (omega arith) (omega arith) (omega arith),
@@ -168,8 +168,8 @@ InPlace t (detail d) = t.given ≡ true
 
 module _ (room : Bool) (t : State) (table : JointTable) (h : Context) (s : Shows room t table h) where
   -- no wall before the settings
-  not-walled : t.given ≡ false → t.walled ≡ false
-  not-walled g = by t.walled s.ordered
+  not_walled : t.given ≡ false → t.walled ≡ false
+  not_walled g = by t.walled s.ordered
     where
       by : (b : Bool) → (b ≡ true → t.given ≡ true) → b ≡ false
       by true o = absurd (differ (sym (o refl) ∙ g))
@@ -177,22 +177,22 @@ module _ (room : Bool) (t : State) (table : JointTable) (h : Context) (s : Shows
 
   unwalled : (q : ℕ) → t.given ≡ false → room ≡ true → WallShows t.walled t.wall q h.wall
   unwalled q g r =
-      rw (not-walled g) (rw (not-walled g) at (s.wall r))
+      rw (not_walled g) (rw (not_walled g) at (s.wall r))
 
-  flags-next : (id : ℕ) (j : Joint) → id < 256 → (k : ℕ) → k < 256 → Dec (k ≡ id) → given (with_joint id j h.joints k) ≡ joint_given (set table.given id 1) k
-  flags-next id j i k l (yes e) = rw (e, eq-eqb id id refl) (sym (flag_own table.given id s.size i))
-  flags-next id j i k l (no n) = rw (ne_eqb k id n, flag_other table.given id k n) (s.flags k l)
+  flags_next : (id : ℕ) (j : Joint) → id < 256 → (k : ℕ) → k < 256 → Dec (k ≡ id) → given (with_joint id j h.joints k) ≡ joint_given (set table.given id 1) k
+  flags_next id j i k l (yes e) = rw (e, eq-eqb id id refl) (sym (flag_own table.given id s.size i))
+  flags_next id j i k l (no n) = rw (ne_eqb k id n, flag_other table.given id k n) (s.flags k l)
 
-  joints-next : (id : ℕ) (j : Joint) → id < 256 → room ≡ true → (k : ℕ) → k < 256 → Dec (k ≡ id) →
+  joints_next : (id : ℕ) (j : Joint) → id < 256 → room ≡ true → (k : ℕ) → k < 256 → Dec (k ≡ id) →
       with_joint id j h.joints k ≡ shown (joint_given (set table.given id 1) k) (joint_held (cond room (joint_stored table.sums id j) table.sums) k)
-  joints-next id j i r k l (yes e) = rw (r, e, eq-eqb id id refl, flag_own table.given id s.size i, held-own table.sums id j (s.sums r) i)
-  joints-next id j i r k l (no n) =
-      rw (r, ne_eqb k id n, flag_other table.given id k n, held-other table.sums id j (s.sums r) i k n) (s.joints r k l)
+  joints_next id j i r k l (yes e) = rw (r, e, eq-eqb id id refl, flag_own table.given id s.size i, held_own table.sums id j (s.sums r) i)
+  joints_next id j i r k l (no n) =
+      rw (r, ne_eqb k id n, flag_other table.given id k n, held_other table.sums id j (s.sums r) i k n) (s.joints r k l)
 
-  pub shows-next : (c : Command) → IdsFit c → InPlace t c → Shows room (next_state room t c) (next_joints room table c) (next h c)
+  pub shows_next : (c : Command) → IdsFit c → InPlace t c → Shows room (next_state room t c) (next_joints room table c) (next h c)
   unfolding next_state next_given next_sums next with_settings with_wall with_ground
-  shows-next finish i p = s
-  shows-next (settings x) i p =
+  shows_next finish i p = s
+  shows_next (settings x) i p =
       record {
         size = s.size;
         sums = s.sums;
@@ -204,22 +204,22 @@ module _ (room : Bool) (t : State) (table : JointTable) (h : Context) (s : Shows
         ground = s.ground;
         ordered = λ e. refl;
       }
-  shows-next (joint id j) i p =
+  shows_next (joint id j) i p =
       record {
         size = length-set table.given id 1 ∙ s.size;
         sums = λ r. sums_length room table.sums (joint id j) ∙ s.sums r;
         settings = s.settings;
-        flags = λ k l. flags-next id j i k l (ℕ_discrete k id);
-        joints = λ r k l. joints-next id j i r k l (ℕ_discrete k id);
+        flags = λ k l. flags_next id j i k l (ℕ_discrete k id);
+        joints = λ r k l. joints_next id j i r k l (ℕ_discrete k id);
         walled = s.walled;
         wall = s.wall;
         ground = s.ground;
         ordered = s.ordered;
       }
-  shows-next (column c) i p = s
-  shows-next (beam b) i p = s
-  shows-next (hingeless id1 id2 m) i p = s
-  shows-next (wall_base b) i p =
+  shows_next (column c) i p = s
+  shows_next (beam b) i p = s
+  shows_next (hingeless id1 id2 m) i p = s
+  shows_next (wall_base b) i p =
       record {
         size = s.size;
         sums = s.sums;
@@ -231,8 +231,8 @@ module _ (room : Bool) (t : State) (table : JointTable) (h : Context) (s : Shows
         ground = s.ground;
         ordered = λ e. p;
       }
-  shows-next (storey x) i p = s
-  shows-next (soil x) i p =
+  shows_next (storey x) i p = s
+  shows_next (soil x) i p =
       record {
         size = s.size;
         sums = s.sums;
@@ -244,5 +244,5 @@ module _ (room : Bool) (t : State) (table : JointTable) (h : Context) (s : Shows
         ground = refl;
         ordered = s.ordered;
       }
-  shows-next (footing f) i p = s
-  shows-next (detail d) i p = s
+  shows_next (footing f) i p = s
+  shows_next (detail d) i p = s

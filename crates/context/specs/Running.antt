@@ -145,4 +145,4 @@ pub record SoundSums (room : Bool) (sums : List ℕ) : Type 0 where
 -- for what a command changes
 pub record NextAsks (t : State) (c : Command) : Type 0 where
   pub state : SoundState t
-  pub in_range_lem : in_range c ≡ true
+  pub ranged : in_range c ≡ true

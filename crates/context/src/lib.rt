@@ -1,5 +1,7 @@
 // The context of a command, as the code keeps it: a state by value and the joints in lent tables; how a command changes it, and
 // refusal 6.
+#![tactic(auto)]
+
 ghost use Rattle.std.specs.Prelude.{◌≡◌, true, not, ◌||◌, ◌+◌, ◌*◌, ◌≤◌, length};
 ghost use Rattle.std.specs.Float.{binary32};
 ghost use Rattle.std.specs.Float.Ieee.{of_bits};
@@ -15,7 +17,7 @@ use walls::{Wall, WallBase};
 
 // The running values of the latest wall, settings, the latest soil; then whether each was given. The fields stand by their size,
 // so that a copy of a state has no gap within.
-#[derive(Drop)]
+#[derive(Clone, Copy)]
 pub struct State {
     pub wall: Wall,
     pub settings: Settings,

@@ -40,37 +40,37 @@ pub short_to : (j j0 k : ℕ) → cube k * j0 < 10 ^ 9 * j → Short j j0 (suc k
 short_to j j0 k h i l = omega (arith, cube_mono {i = i} {k = k} j0 (omega arith))
 
 module _ (j j0 : ℕ) where
-  first-within : (n k : ℕ) → first_from j j0 n k ≤ k + n
+  first_within : (n k : ℕ) → first_from j j0 n k ≤ k + n
   unfolding first_from
-  first-within zero k = omega arith
-  first-within (suc n) k =
+  first_within zero k = omega arith
+  first_within (suc n) k =
       by_test (λ r. r ≤ k + suc n) (leb (10 ^ 9 * j) (cube k * j0)) (λ t. omega arith)
-      (λ t. omega (arith, first-within n (suc k)))
+      (λ t. omega (arith, first_within n (suc k)))
 
-  first-least : (n k : ℕ) → k + n ≡ 1000 → Short j j0 k → 10 ^ 9 * j ≤ cube 1000 * j0 → Least j j0 (first_from j j0 n k)
+  first_least : (n k : ℕ) → k + n ≡ 1000 → Short j j0 k → 10 ^ 9 * j ≤ cube 1000 * j0 → Least j j0 (first_from j j0 n k)
   unfolding first_from
-  first-least zero k e s enough =
+  first_least zero k e s enough =
       let h : k ≡ 1000 = omega arith in record { within = omega arith; enough = rw h enough; least = s }
-  first-least (suc n) k e s enough =
+  first_least (suc n) k e s enough =
       by_test (Least j j0) (leb (10 ^ 9 * j) (cube k * j0))
       (λ t. record { within = omega arith; enough = leb-true _ _ t; least = s })
-      (λ t. first-least n (suc k) (omega arith) (short_to j j0 k (leb-false _ _ t)) enough)
+      (λ t. first_least n (suc k) (omega arith) (short_to j j0 k (leb-false _ _ t)) enough)
 
 -- at most 1,000, whatever J and J0 are
 pub least_root_within : (j j0 : ℕ) → least_root j j0 ≤ 1000
 unfolding least_root
-least_root_within j j0 = omega (arith, first-within j j0 1000 0)
+least_root_within j j0 = omega (arith, first_within j j0 1000 0)
 
 -- where J ≤ J0 it is enough, and least
 pub least_root_least : (j j0 : ℕ) → j ≤ j0 → Least j j0 (least_root j j0)
 unfolding least_root
-least_root_least j j0 h = first-least j j0 1000 0 refl (λ i l. omega arith) (omega arith)
+least_root_least j j0 h = first_least j j0 1000 0 refl (λ i l. omega arith) (omega arith)
 
 -- what is least is `least_root`
 pub least_is : {j j0 k : ℕ} → Least j j0 k → k ≡ least_root j j0
 unfolding least_root
 least_is {j} {j0} x =
-    least_unique x (first-least j j0 1000 0 refl (λ i l. omega arith) (omega (arith, cube_mono j0 x.within, x.enough)))
+    least_unique x (first_least j j0 1000 0 refl (λ i l. omega arith) (omega (arith, cube_mono j0 x.within, x.enough)))
 
 -- 0 is not enough
 pub least_positive : {j j0 k : ℕ} → 1 ≤ j → Least j j0 k → 1 ≤ k

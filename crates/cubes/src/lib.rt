@@ -1,5 +1,7 @@
-// The cubes of 0 to 1,000, and the least k with typeof.k³.J0 ≥ 10⁹·J, found among them.
+// The cubes of 0 to 1,000, and the least k with k³·J0 ≥ 10⁹·J, found among them.
 // A caller with many searches makes the table once and lends it: a constant is stored anew at each use.
+#![tactic(auto)]
+
 ghost use Rattle.std.specs.Prelude.{◌≡◌, ◌⊎◌, ◌*◌, ◌^◌, ◌≤◌, ◌<◌};
 ghost use Rattle.cubes.specs.Cube.{cube, IsCubes, LentCubes};
 ghost use Rattle.cubes.specs.Root.{Least, least_root};

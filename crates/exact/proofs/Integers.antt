@@ -168,7 +168,7 @@ fits_size x h = fits_in x (omega (arith, nat_abs_law x)) (omega (arith, nat_abs_
 
 -- a call's result is read back from its bits
 pub returned : {z : ℤ} → mag z < 2 ^ 63 → to_z w64 (of_z w64 z) ≡ z
-returned h = to_z-of_z (record { sfits = h })
+returned {z = z} h = to_z-of_z {w = w64} {z = z} (record { sfits = h })
 
 -- the result by the call's equation
 pub read_as : {z y : ℤ} → z ≡ y → mag z < 2 ^ 63 → to_z w64 (of_z w64 z) ≡ y

@@ -1,6 +1,8 @@
 // Quotients rounded down (floor) and up (ceiling), right below zero and at the ends of i64. `/` rounds towards zero, and its
 // remainder says whether one is missing: one division, and no branch on the sign.
 // 01, "The form each place needs": "signed quotients with floor and ceiling, right below zero and at the ends".
+#![tactic(auto)]
+
 ghost use Rattle.std.specs.Prelude.{◌≡◌, ◌<◌, min, max, pos, nat_abs, ◌<ℤ◌};
 ghost use Rattle.exact.specs.Quotient.{up, down_ℤ, up_ℤ};
 ghost use Rattle.exact.specs.Fraction.{up_f};

@@ -42,7 +42,7 @@ unfolding column_row beam_row hingeless_row detail_row base_row storey_row footi
 figures =
     record {
       column_shear = λ VR. refl;
-      beamShears = λ r1 r2 r3 r4 VR plus minus. (rw plus, rw minus);
+      beam_shears = λ r1 r2 r3 r4 VR plus minus. (rw plus, rw minus);
       hingeless_shears = λ RB RC VR. (refl, refl);
       wall_shear = λ length thickness VR. refl;
       cap_governs = λ length thickness VR. (refl, omega arith);

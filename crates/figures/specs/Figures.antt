@@ -51,7 +51,7 @@ pub record Figures : Type 0 where
   -- Column 3000, R 200000, 200000, 180000, 210000, VE 80000: 186,667
   pub column_shear : (VR : ℕ) → (column_row q (column VR)).word2 ≡ pos 186667
   -- Beam 7000, each S = 1, V0 −5000, VE 1: −4,999 and −5,001
-  pub beamShears :
+  pub beam_shears :
       (r1 r2 r3 r4 VR : ℕ) → r1 + r2 ≡ 1 → r3 + r4 ≡ 1 → Shears (beam_row q (beam r1 r2 r3 r4 VR)) (neg_ℤ (pos 4999)) (neg_ℤ (pos 5001))
   -- RB 300000, RC 250000, EB 200000, ME1 100000; other joint EB 0, ME2 10000; length 3000, V0 −5000: 65,000 and −75,000
   pub hingeless_shears : (RB RC VR : ℕ) → Shears (hingeless_row settings first_joint (other_joint RB RC) (hingeless VR)) (pos 65000) (neg_ℤ (pos 75000))

@@ -26,7 +26,7 @@ use Rattle.footing.specs.Actions.{footing_coefficient, normal, moment_b, moment_
 use Rattle.footing.specs.Rows.{footing_row, eccentricity, sliding_resistance, eccentric}
 use Rattle.footing.specs.Claimed.{exact_base}
 use Rattle.footing.specs.Contact.{resistance_with, given, with_contact, ResistsWith, LosesBit8, ResistanceAlone, Counted, Declares}
-use Rattle.footing.proofs.Rows.{heavy_of, heavy-is, light-is, is-heavy}
+use Rattle.footing.proofs.Rows.{heavy_of, heavy_is, light_is, is_heavy}
 
 -- ---- the thrust that counts
 
@@ -50,7 +50,7 @@ module _ (s : Settings) (f : Footing) (soil : Soil) (sensitive minus : Bool) whe
   -- R with the P that counts
   resists : (P : ℕ) → counted_thrust f ≡ P → ResistsWith P f soil (footing_row s f soil sensitive minus)
   resists P e h =
-      subst (λ (row : Row). row.word6 ≡ pos (resistance_with P f soil row)) (sym (heavy-is s f soil sensitive minus (is-heavy s f soil sensitive minus h)))
+      subst (λ (row : Row). row.word6 ≡ pos (resistance_with P f soil row)) (sym (heavy_is s f soil sensitive minus (is_heavy s f soil sensitive minus h)))
       (ap (λ (k : ℕ). pos (resistance_with k f soil (heavy_of s f soil sensitive minus))) e)
 
   any_thrust : contact f ≡ false → (P : ℕ) → footing_row s (given P f.flags f) soil sensitive minus ≡ footing_row s f soil sensitive minus
@@ -121,8 +121,8 @@ module _ (s : Settings) (f : Footing) (soil : Soil) (sensitive minus : Bool) (e 
   more : (ex ey n : ℕ) → sliding_resistance (with_contact f) soil ex ey n ≡ sliding_resistance f soil ex ey n + down (2 * f.passive) 5
   more ex ey n = rw (counts (with_contact f) (set_after f.flags e)) (omega (arith, counts_not f e, down_le (2 * counted_thrust f) 5))
 
-  heavy-rows : ResistanceAlone (heavy_of s f soil sensitive minus) (heavy_of s (with_contact f) soil sensitive minus)
-  heavy-rows =
+  heavy_rows : ResistanceAlone (heavy_of s f soil sensitive minus) (heavy_of s (with_contact f) soil sensitive minus)
+  heavy_rows =
       let n = nat_abs (down_s (normal s f minus)) in
       let ex = eccentricity (up_f (size (moment_b s f minus))) n in
       let ey = eccentricity (up_f (size (moment_l s f minus))) n in
@@ -143,22 +143,22 @@ module _ (s : Settings) (f : Footing) (soil : Soil) (sensitive minus : Bool) (e 
   rows = by (le_z (pos 20000) (down_s (normal s f minus))) refl
     where
       by : (t : Bool) → le_z (pos 20000) (down_s (normal s f minus)) ≡ t → ResistanceAlone (footing_row s f soil sensitive minus) (footing_row s (with_contact f) soil sensitive minus)
-      by true t = rw (heavy-is s f soil sensitive minus t, heavy-is s (with_contact f) soil sensitive minus t) heavy-rows
-      by false t = rw (light-is s f soil sensitive minus t, light-is s (with_contact f) soil sensitive minus t) (unchanged _)
+      by true t = rw (heavy_is s f soil sensitive minus t, heavy_is s (with_contact f) soil sensitive minus t) heavy_rows
+      by false t = rw (light_is s f soil sensitive minus t, light_is s (with_contact f) soil sensitive minus t) (unchanged _)
 
   grows : pos 20000 ≤ℤ (footing_row s f soil sensitive minus).word2 →
       (footing_row s (with_contact f) soil sensitive minus).word6 ≡ (footing_row s f soil sensitive minus).word6 +ℤ pos (down (2 * f.passive) 5)
   grows h =
-      let t = is-heavy s f soil sensitive minus h in
+      let t = is_heavy s f soil sensitive minus h in
       let n = nat_abs (down_s (normal s f minus)) in
-      rw (heavy-is s f soil sensitive minus t, heavy-is s (with_contact f) soil sensitive minus t)
+      rw (heavy_is s f soil sensitive minus t, heavy_is s (with_contact f) soil sensitive minus t)
       (ap pos (more (eccentricity (up_f (size (moment_b s f minus))) n) (eccentricity (up_f (size (moment_l s f minus))) n) n))
 
   pub declares : Declares s f e soil sensitive minus
   declares =
       record {
         declared = set_after f.flags e;
-        both_flags_lem = both_stay f.flags;
+        both_flags_kept = both_stay f.flags;
         rows = rows;
         grows = grows;
         exact =

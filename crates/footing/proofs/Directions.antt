@@ -2,21 +2,22 @@
 -- unrounded N. Assumes nothing.
 use mathlib.Core.Path.{◌≡◌, refl, sym, ap, ◌∙◌, subst}
 use mathlib.Core.Bool.{Bool, true, false}
-use Prim.Native.Nat.{ℕ, suc, ◌+◌, ◌-◌, ◌*◌, ◌≤◌, ◌<◌}
+use Prim.Native.Nat.{ℕ, suc, ◌+◌, ◌*◌, ◌^◌, ◌≤◌, ◌<◌}
 use native.Mathlib.Omega.{arith}
 use native.Mathlib.Nat.{mul-zero, mul-le-mul}
 use lib.Dec.{T}
 use lib.IntN.{ℤ, pos, negsuc, neg_ℤ, sub_ℕ, ◌*ℤ◌, nat_abs}
-use lib.Signed.{le_z, non_neg, ◌<ℤ◌}
-use mir.Syntax.{w64}
-use mir.Val.{SFits, Fits}
+use lib.Signed.{mag, le_z, non_neg}
+use mir.Syntax.{w32, w64}
+use mir.Val.{SFits, Fits, to_z, of_z}
+use mir.Facts.{to_z-of_z}
 use borrow.Author.Tests.{leb-true}
 use Rattle.exact.specs.Quotient.{up}
 use Rattle.exact.specs.Fraction.{Fraction, Proper, ratio, up_f}
 use Rattle.exact.specs.SignedFraction.{SignedFraction, ProperS, above, below, whole_s, ratio_s, ◌+S◌, size, positive, down_s}
 use Rattle.exact.specs.Sums.{SumFits}
 use Rattle.exact.proofs.Multiply.{◌·◌}
-use Rattle.exact.proofs.Integers.{<ℤ_in, above_neg, below_neg, nat_abs_law, nat_abs_neg, nat_abs_*ℤ, fits_size, sub_ℕ_law}
+use Rattle.exact.proofs.Integers.{<ℤ_in, above_neg, below_neg, nat_abs_law, nat_abs_neg, nat_abs_*ℤ, fits_size, sub_ℕ_law, read_as}
 use Rattle.exact.proofs.Rounding.{up_le_of, down_s_size, down_ℤ_le, down_ℤ_lt}
 use Rattle.coefficient.specs.declared.Quotient.{Quotient}
 use Rattle.coefficient.specs.Coefficient.{fraction}
@@ -73,6 +74,20 @@ sum_fits minus a v e r =
             mul-le-mul r.coefficient.num r.seismic,
           );
     }
+
+-- the three numbers that the functions hand to `exact`, as they are read there: they fit, and their sum is the action
+pub record Handed (minus : Bool) (a : Quotient) (v e whole part den : ℤ) : Type 0 where
+  pub fits : SumFits (to_z w64 (of_z w64 whole)) (to_z w64 (of_z w64 part)) (to_z w64 (of_z w64 den))
+  pub is : whole_s (to_z w64 (of_z w64 whole)) +S ratio_s (to_z w64 (of_z w64 part)) (nat_abs (to_z w64 (of_z w64 den))) ≡ action minus (fraction a) v e
+
+pub handed : (minus : Bool) (a : Quotient) (v e whole part den : ℤ) → ActionRange a v e → SFits w32 v → SFits w32 e →
+    whole ≡ to_z w32 (of_z w32 v) → mag whole < 2 ^ 63 → part ≡ turned minus (pos a.num *ℤ to_z w32 (of_z w32 e)) → mag part < 2 ^ 63 →
+    den ≡ pos a.den → mag den < 2 ^ 63 → Handed minus a v e whole part den
+handed minus a v e whole part den r fv fe ew hw ep hp ed hd =
+    let w : to_z w64 (of_z w64 whole) ≡ v = read_as (ew ∙ to_z-of_z fv) hw in
+    let p : to_z w64 (of_z w64 part) ≡ turned minus (pos a.num *ℤ e) = read_as (ep ∙ rw (to_z-of_z fe)) hp in
+    let d : to_z w64 (of_z w64 den) ≡ pos a.den = read_as ed hd in
+    record { fits = rw (w, p, d) (sum_fits minus a v e r); is = rw (w, p, d) (action_is minus a.num a.den v e) }
 
 -- ---- bounds
 

@@ -3,7 +3,7 @@
 use mathlib.Core.Path.{◌≡◌, refl, sym, subst}
 use mathlib.Core.Bool.{Bool, true, false}
 use mathlib.Core.Logic.{inl}
-use Prim.Native.Nat.{ℕ, ◌+◌, ◌-◌, ◌*◌, ◌≤◌, ◌<◌}
+use Prim.Native.Nat.{ℕ, ◌+◌, ◌*◌, ◌≤◌, ◌<◌}
 use native.Mathlib.Omega.{arith}
 use lib.Dec.{ltb}
 use lib.IntN.{ℤ, pos, nat_abs}
@@ -30,8 +30,8 @@ use Rattle.footing.specs.Claimed.{exact_normal, exact_ex, exact_ey, exact_area, 
 use Rattle.footing.proofs.Directions.{Force, proper, heavy}
 use Rattle.footing.proofs.Eccentricity.{Reported, eccentricities}
 use Rattle.footing.proofs.Sliding.{Base, Area, areas, granular, cohesive, enough, sliding}
-use Rattle.footing.proofs.Rows.{heavy_of, heavy-is, is-heavy}
-use Rattle.footing.proofs.Sides.{bit_4, clear-4, three_hold}
+use Rattle.footing.proofs.Rows.{heavy_of, heavy_is, is_heavy}
+use Rattle.footing.proofs.Sides.{bit_4, clear_4, three_hold}
 
 -- ---- the check of one side
 
@@ -68,12 +68,12 @@ force_of s f minus = nat_abs (down_s (normal s f minus))
 
 module _ (s : Settings) (f : Footing) (minus : Bool) (r : FootingRange s f) (h : le_z (pos 20000) (down_s (normal s f minus)) ≡ true) where
   -- V ± a·E has a positive denominator
-  action-proper : (v e : ℤ) → ProperS (action minus (footing_coefficient s f) v e)
-  action-proper v e =
+  action_proper : (v e : ℤ) → ProperS (action minus (footing_coefficient s f) v e)
+  action_proper v e =
       proper minus (footing_coefficient s f) v e (coefficient-proper s.foundations f.resistance f.moment s.behaviour)
 
   force : Force (force_of s f minus) (exact_normal s f minus)
-  force = (heavy (normal s f minus) (action-proper f.nv f.ne) h).force
+  force = (heavy (normal s f minus) (action_proper f.nv f.ne) h).force
 
   -- ---- the eccentricities
 
@@ -84,10 +84,10 @@ module _ (s : Settings) (f : Footing) (minus : Bool) (r : FootingRange s f) (h :
   ey = eccentricity (up_f (size (moment_l s f minus))) (force_of s f minus)
 
   along_breadth : Reported ex (exact_ex s f minus)
-  along_breadth = eccentricities (size (moment_b s f minus)) (exact_normal s f minus) (force_of s f minus) (action-proper f.xv f.xe) force
+  along_breadth = eccentricities (size (moment_b s f minus)) (exact_normal s f minus) (force_of s f minus) (action_proper f.xv f.xe) force
 
   along_length : Reported ey (exact_ey s f minus)
-  along_length = eccentricities (size (moment_l s f minus)) (exact_normal s f minus) (force_of s f minus) (action-proper f.yv f.ye) force
+  along_length = eccentricities (size (moment_l s f minus)) (exact_normal s f minus) (force_of s f minus) (action_proper f.yv f.ye) force
 
   -- ---- the sliding resistance
 
@@ -97,39 +97,39 @@ module _ (s : Settings) (f : Footing) (minus : Bool) (r : FootingRange s f) (h :
   abbrev base : Soil → ℕ
   base soil = base_resistance soil (effective_area f ex ey) (force_of s f minus) f.uplift
 
-  base-strength : (soil : Soil) → Base (base soil) (exact_base s f soil minus) (sliding_amount f soil)
+  base_strength : (soil : Soil) → Base (base soil) (exact_base s f soil minus) (sliding_amount f soil)
   unfolding base_resistance
-  base-strength (Granular x) =
+  base_strength (Granular x) =
       enough (base (Granular x)) (exact_base s f (Granular x) minus) (whole 4) (sliding_amount f (Granular x)) (omega arith) (omega arith) (omega arith)
       (granular (force_of s f minus) f.uplift (tangent_of x) (exact_normal s f minus) (tangent_le x) force)
-  base-strength (Cohesive x) =
+  base_strength (Cohesive x) =
       let g = 4 * (f.breadth + f.length) in
       enough (base (Cohesive x)) (exact_base s f (Cohesive x) minus) (ratio (g * cohesion_of x) 1000000 +F whole 3) (sliding_amount f (Cohesive x)) (omega arith) (omega arith) (omega arith)
       (cohesive (force_of s f minus) (effective_area f ex ey) (cohesion_of x) g (exact_normal s f minus) (exact_area s f minus) force area)
 
-  amount-proper : (soil : Soil) → Proper (sliding_amount f soil)
-  amount-proper (Granular x) = omega arith
-  amount-proper (Cohesive x) = omega arith
+  amount_proper : (soil : Soil) → Proper (sliding_amount f soil)
+  amount_proper (Granular x) = omega arith
+  amount_proper (Cohesive x) = omega arith
 
-  sliding-strength : (soil : Soil) → StrengthHolds (sliding_strength s f soil minus (pos (sliding_resistance f soil ex ey (force_of s f minus))))
-  sliding-strength soil = sliding (base soil) (counted_thrust f) (exact_base s f soil minus) (sliding_amount f soil) (amount-proper soil) (base-strength soil)
+  sliding_strength_lem : (soil : Soil) → StrengthHolds (sliding_strength s f soil minus (pos (sliding_resistance f soil ex ey (force_of s f minus))))
+  sliding_strength_lem soil = sliding (base soil) (counted_thrust f) (exact_base s f soil minus) (sliding_amount f soil) (amount_proper soil) (base_strength soil)
 
-  abbrev sliding-check : Soil → Check
-  sliding-check soil =
+  abbrev sliding_check : Soil → Check
+  sliding_check soil =
       check 8 (plain (pos (up_f (size (horizontal s f minus)))) (value (signed (size (horizontal s f minus)))) (whole 1))
       (sliding_strength s f soil minus (pos (sliding_resistance f soil ex ey (force_of s f minus))))
 
-  sliding-holds : (soil : Soil) → CheckHolds (sliding-check soil)
-  sliding-holds soil =
+  sliding_holds : (soil : Soil) → CheckHolds (sliding_check soil)
+  sliding_holds soil =
       let x = size (horizontal s f minus) in
-      let p = action-proper f.hv f.he in
-      check_holds (sliding-check soil) p (omega arith) (up_not_below x p) (λ g. up_excess x p) (sliding-strength soil) (λ c. tt)
+      let p = action_proper f.hv f.he in
+      check_holds (sliding_check soil) p (omega arith) (up_not_below x p) (λ g. up_excess x p) (sliding_strength_lem soil) (λ c. tt)
 
   -- ---- all claims
 
-  heavy-holds : (soil : Soil) (sensitive : Bool) → Hold (footing_claims s f soil sensitive minus (heavy_of s f soil sensitive minus))
+  heavy_holds : (soil : Soil) (sensitive : Bool) → Hold (footing_claims s f soil sensitive minus (heavy_of s f soil sensitive minus))
   unfolding footing_claims
-  heavy-holds soil sensitive =
+  heavy_holds soil sensitive =
       let a = footing_coefficient s f in
       let excepted = exception s.behaviour f a in
       let u = exact_ex s f minus in
@@ -139,15 +139,15 @@ module _ (s : Settings) (f : Footing) (minus : Bool) (r : FootingRange s f) (h :
       let off = eccentric s.behaviour f a sensitive ex ey in
       let R = sliding_resistance f soil ex ey (force_of s f minus) in
       let H = up_f (size (horizontal s f minus)) in
-      three_hold (eccentricity_check sensitive excepted d f.breadth) (eccentricity_check sensitive excepted e f.length) (sliding-check soil) off (ltb R H)
+      three_hold (eccentricity_check sensitive excepted d f.breadth) (eccentricity_check sensitive excepted e f.length) (sliding_check soil) off (ltb R H)
       (bit_4 sensitive excepted d f.breadth) (bit_4 sensitive excepted e f.length) refl
-      (clear-4 f ex ey u w (omega (arith, r.breadth_least)) (omega (arith, r.length_least)) sensitive excepted) (not_below_ℕ R H)
+      (clear_4 f ex ey u w (omega (arith, r.breadth_least)) (omega (arith, r.length_least)) sensitive excepted) (not_below_ℕ R H)
       (eccentricity_holds ex f.breadth u r.breadth_greatest along_breadth sensitive excepted)
-      (eccentricity_holds ey f.length w r.length_greatest along_length sensitive excepted) (sliding-holds soil)
+      (eccentricity_holds ey f.length w r.length_greatest along_length sensitive excepted) (sliding_holds soil)
 
 pub footing_holds : (s : Settings) (f : Footing) (soil : Soil) (sensitive minus : Bool) → FootingRange s f →
     pos 20000 ≤ℤ (footing_row s f soil sensitive minus).word2 →
     Hold (footing_claims s f soil sensitive minus (footing_row s f soil sensitive minus))
 footing_holds s f soil sensitive minus r h =
-    let e = is-heavy s f soil sensitive minus h in
-    subst (λ (row : Row). Hold (footing_claims s f soil sensitive minus row)) (sym (heavy-is s f soil sensitive minus e)) (heavy-holds s f minus r e soil sensitive)
+    let e = is_heavy s f soil sensitive minus h in
+    subst (λ (row : Row). Hold (footing_claims s f soil sensitive minus row)) (sym (heavy_is s f soil sensitive minus e)) (heavy_holds s f minus r e soil sensitive)

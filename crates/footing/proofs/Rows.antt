@@ -22,28 +22,28 @@ heavy_of s f soil sensitive minus =
     (up_f (size (horizontal s f minus)))
 
 module _ (s : Settings) (f : Footing) (soil : Soil) (sensitive minus : Bool) where
-  pub heavy-is : le_z (pos 20000) (down_s (normal s f minus)) ≡ true → footing_row s f soil sensitive minus ≡ heavy_of s f soil sensitive minus
+  pub heavy_is : le_z (pos 20000) (down_s (normal s f minus)) ≡ true → footing_row s f soil sensitive minus ≡ heavy_of s f soil sensitive minus
   unfolding footing_row
-  heavy-is h = rw h
+  heavy_is h = rw h
 
-  pub light-is : le_z (pos 20000) (down_s (normal s f minus)) ≡ false → footing_row s f soil sensitive minus ≡ light_row (down_s (normal s f minus)) (up_f (size (horizontal s f minus)))
+  pub light_is : le_z (pos 20000) (down_s (normal s f minus)) ≡ false → footing_row s f soil sensitive minus ≡ light_row (down_s (normal s f minus)) (up_f (size (horizontal s f minus)))
   unfolding footing_row
-  light-is h = rw h
+  light_is h = rw h
 
   -- a row whose reported N is at least 20,000 is of the first form
-  pub is-heavy : pos 20000 ≤ℤ (footing_row s f soil sensitive minus).word2 → le_z (pos 20000) (down_s (normal s f minus)) ≡ true
-  is-heavy h = by (le_z (pos 20000) (down_s (normal s f minus))) refl
+  pub is_heavy : pos 20000 ≤ℤ (footing_row s f soil sensitive minus).word2 → le_z (pos 20000) (down_s (normal s f minus)) ≡ true
+  is_heavy h = by (le_z (pos 20000) (down_s (normal s f minus))) refl
     where
       by : (t : Bool) → le_z (pos 20000) (down_s (normal s f minus)) ≡ t → t ≡ true
       by true e = refl
-      by false e = absurd (subst T e (subst (λ (row : Row). T (le_z (pos 20000) row.word2)) (light-is e) h.le))
+      by false e = absurd (subst T e (subst (λ (row : Row). T (le_z (pos 20000) row.word2)) (light_is e) h.le))
 
   -- the row of computed values
-  pub heavy-path : (n : ℤ) (ex ey h : ℕ) → le_z (pos 20000) n ≡ true → n ≡ down_s (normal s f minus) →
+  pub heavy_path : (n : ℤ) (ex ey h : ℕ) → le_z (pos 20000) n ≡ true → n ≡ down_s (normal s f minus) →
       ex ≡ eccentricity (up_f (size (moment_b s f minus))) (nat_abs (down_s (normal s f minus))) → ey ≡ eccentricity (up_f (size (moment_l s f minus))) (nat_abs (down_s (normal s f minus))) →
       h ≡ up_f (size (horizontal s f minus)) → heavy_row s f soil sensitive (nat_abs n) ex ey h ≡ footing_row s f soil sensitive minus
-  heavy-path n ex ey h t en ex-is ey-is h-is = rw (ex-is, ey-is, h-is, en) (sym (heavy-is (rw en at t)))
+  heavy_path n ex ey h t en ex-is ey-is h-is = rw (ex-is, ey-is, h-is, en) (sym (heavy_is (rw en at t)))
 
-  pub light-path : (n : ℤ) (h : ℕ) → le_z (pos 20000) n ≡ false → n ≡ down_s (normal s f minus) → h ≡ up_f (size (horizontal s f minus)) →
+  pub light_path : (n : ℤ) (h : ℕ) → le_z (pos 20000) n ≡ false → n ≡ down_s (normal s f minus) → h ≡ up_f (size (horizontal s f minus)) →
       light_row n h ≡ footing_row s f soil sensitive minus
-  light-path n h t en h-is = rw (h-is, en) (sym (light-is (rw en at t)))
+  light_path n h t en h-is = rw (h-is, en) (sym (light_is (rw en at t)))

@@ -52,8 +52,8 @@ Both f ex ey u w sensitive excepted = Passes (sided sensitive excepted ex u f.br
 
 module _ (f : Footing) (ex ey : ℕ) (u w : Fraction) (pb : 0 < f.breadth) (pl : 0 < f.length) where
   -- under the exception
-  excepted-in : off false true f ex ey ≡ false → (2 * ex < f.breadth) × (2 * ey < f.length)
-  excepted-in h = by (outside 3 f ex ey) refl h
+  excepted_in : off false true f ex ey ≡ false → (2 * ex < f.breadth) × (2 * ey < f.length)
+  excepted_in h = by (outside 3 f ex ey) refl h
     where
       by : (o : Bool) → outside 3 f ex ey ≡ o → (o && not (halves f ex ey)) ≡ false → (2 * ex < f.breadth) × (2 * ey < f.length)
       by false e k = let i = (within 3 f ex ey).0 e in (omega (arith, i.0), omega (arith, i.1))
@@ -61,19 +61,19 @@ module _ (f : Footing) (ex ey : ℕ) (u w : Fraction) (pb : 0 < f.breadth) (pl :
           let i = both_true (ltb (2 * ex) f.breadth) (ltb (2 * ey) f.length) (not-false (halves f ex ey) k) in
           (ltb-true (2 * ex) f.breadth i.0, ltb-true (2 * ey) f.length i.1)
 
-  excepted-out : 2 * ex < f.breadth → 2 * ey < f.length → off false true f ex ey ≡ false
-  excepted-out h k = rw (lt-ltb (2 * ex) f.breadth h, lt-ltb (2 * ey) f.length k) (and-false (outside 3 f ex ey))
+  excepted_out : 2 * ex < f.breadth → 2 * ey < f.length → off false true f ex ey ≡ false
+  excepted_out h k = rw (lt-ltb (2 * ex) f.breadth h, lt-ltb (2 * ey) f.length k) (and-false (outside 3 f ex ey))
 
-  pub clear-4 : (sensitive excepted : Bool) → (off sensitive excepted f ex ey ≡ false) ↔ Both f ex ey u w sensitive excepted
-  clear-4 true excepted = (
+  pub clear_4 : (sensitive excepted : Bool) → (off sensitive excepted f ex ey ≡ false) ↔ Both f ex ey u w sensitive excepted
+  clear_4 true excepted = (
     λ h. let i = (within 4 f ex ey).0 h in (omega (arith, i.0), omega (arith, i.1)),
     λ p. (within 4 f ex ey).1 (omega (arith, p.0), omega (arith, p.1)),
   )
-  clear-4 false true = (
-    λ h. let i = excepted-in h in (omega (arith, i.0), omega (arith, i.1)),
-    λ p. excepted-out (omega (arith, p.0)) (omega (arith, p.1)),
+  clear_4 false true = (
+    λ h. let i = excepted_in h in (omega (arith, i.0), omega (arith, i.1)),
+    λ p. excepted_out (omega (arith, p.0)) (omega (arith, p.1)),
   )
-  clear-4 false false = (
+  clear_4 false false = (
     λ h. let i = (within 3 f ex ey).0 (sym (and-true (outside 3 f ex ey)) ∙ h) in (omega (arith, i.0), omega (arith, i.1)),
     λ p. and-true (outside 3 f ex ey) ∙ (within 3 f ex ey).1 (omega (arith, p.0), omega (arith, p.1)),
   )

@@ -20,7 +20,7 @@ use Rattle.footing.specs.Rows.{eccentricity, sliding_resistance, eccentric, ligh
 use Rattle.footing.specs.Ranges.{ActionRange}
 use Rattle.footing.proofs.Directions.{capped_coefficient, proper, size_le, heavy, normal_le, eccentricity_le}
 use Rattle.footing.proofs.Sliding.{resistance_le}
-use Rattle.footing.proofs.Rows.{heavy_of, heavy-is, light-is}
+use Rattle.footing.proofs.Rows.{heavy_of, heavy_is, light_is}
 
 module _ (s : Settings) (f : Footing) (minus : Bool) (r : FootingRange s f) where
   -- a as the functions have it
@@ -34,26 +34,26 @@ module _ (s : Settings) (f : Footing) (minus : Bool) (r : FootingRange s f) wher
   abbrev force : ℤ
   force = down_s (normal s f minus)
 
-  force-le : nat_abs force ≤ 500000000
-  force-le = normal_le minus coefficient f.nv f.ne (range f.nv f.ne r.nv r.ne)
+  force_le : nat_abs force ≤ 500000000
+  force_le = normal_le minus coefficient f.nv f.ne (range f.nv f.ne r.nv r.ne)
 
   -- X, Y and H
-  moment-b-le : up_f (size (moment_b s f minus)) ≤ 500000000
-  moment-b-le = size_le minus coefficient f.xv f.xe (range f.xv f.xe r.xv r.xe)
+  moment_b_le : up_f (size (moment_b s f minus)) ≤ 500000000
+  moment_b_le = size_le minus coefficient f.xv f.xe (range f.xv f.xe r.xv r.xe)
 
-  moment-l-le : up_f (size (moment_l s f minus)) ≤ 500000000
-  moment-l-le = size_le minus coefficient f.yv f.ye (range f.yv f.ye r.yv r.ye)
+  moment_l_le : up_f (size (moment_l s f minus)) ≤ 500000000
+  moment_l_le = size_le minus coefficient f.yv f.ye (range f.yv f.ye r.yv r.ye)
 
-  horizontal-le : up_f (size (horizontal s f minus)) ≤ 500000000
-  horizontal-le = size_le minus coefficient f.hv f.he (range f.hv f.he r.hv r.he)
+  horizontal_le : up_f (size (horizontal s f minus)) ≤ 500000000
+  horizontal_le = size_le minus coefficient f.hv f.he (range f.hv f.he r.hv r.he)
 
-  light-sized : Sized (light_row force (up_f (size (horizontal s f minus))))
-  light-sized =
+  light_sized : Sized (light_row force (up_f (size (horizontal s f minus))))
+  light_sized =
       sized force (pos 0) (pos 0) (pos (up_f (size (horizontal s f minus)))) (pos 0) 16
-      (omega (arith, force-le)) (omega arith) (omega arith) (omega (arith, horizontal-le)) (omega arith) (omega arith)
+      (omega (arith, force_le)) (omega arith) (omega arith) (omega (arith, horizontal_le)) (omega arith) (omega arith)
 
-  heavy-sized : (soil : Soil) (sensitive : Bool) → le_z (pos 20000) force ≡ true → Sized (heavy_of s f soil sensitive minus)
-  heavy-sized soil sensitive t =
+  heavy_sized : (soil : Soil) (sensitive : Bool) → le_z (pos 20000) force ≡ true → Sized (heavy_of s f soil sensitive minus)
+  heavy_sized soil sensitive t =
       let n = nat_abs force in
       let positive = (capped_coefficient s f coefficient r refl).positive in
       let least = (heavy (normal s f minus) (proper minus (footing_coefficient s f) f.nv f.ne positive) t).force.least in
@@ -62,13 +62,13 @@ module _ (s : Settings) (f : Footing) (minus : Bool) (r : FootingRange s f) wher
       let h = up_f (size (horizontal s f minus)) in
       let R = sliding_resistance f soil ex ey n in
       sized (pos n) (pos ex) (pos ey) (pos h) (pos R) _
-      (omega (arith, force-le)) (omega (arith, eccentricity_le _ n least moment-b-le)) (omega (arith, eccentricity_le _ n least moment-l-le)) (omega (arith, horizontal-le))
-      (omega (arith, resistance_le f soil ex ey n force-le r.passive))
+      (omega (arith, force_le)) (omega (arith, eccentricity_le _ n least moment_b_le)) (omega (arith, eccentricity_le _ n least moment_l_le)) (omega (arith, horizontal_le))
+      (omega (arith, resistance_le f soil ex ey n force_le r.passive))
       (omega (arith, flag_le 4 (eccentric s.behaviour f (footing_coefficient s f) sensitive ex ey), flag_le 8 (ltb R h)))
 
-  pub footing-sized : (soil : Soil) (sensitive : Bool) → Sized (footing_row s f soil sensitive minus)
-  footing-sized soil sensitive = by (le_z (pos 20000) force) refl
+  pub footing_sized : (soil : Soil) (sensitive : Bool) → Sized (footing_row s f soil sensitive minus)
+  footing_sized soil sensitive = by (le_z (pos 20000) force) refl
     where
       by : (t : Bool) → le_z (pos 20000) force ≡ t → Sized (footing_row s f soil sensitive minus)
-      by true e = subst Sized (sym (heavy-is s f soil sensitive minus e)) (heavy-sized soil sensitive e)
-      by false e = subst Sized (sym (light-is s f soil sensitive minus e)) light-sized
+      by true e = subst Sized (sym (heavy_is s f soil sensitive minus e)) (heavy_sized soil sensitive e)
+      by false e = subst Sized (sym (light_is s f soil sensitive minus e)) light_sized

@@ -137,7 +137,7 @@ pub cohesive : (N A s g : ℕ) (n area : Fraction) → Force N n → Area A g ar
 cohesive N A s g n area f h =
     record {
       proper = smaller_either x y Proper (omega (arith, h.proper)) (omega (arith, f.proper));
-      low = smaller_either x y (λ z. whole (min b c) ≤F z) low_x low-y;
+      low = smaller_either x y (λ z. whole (min b c) ≤F z) low_x low_y;
       high = by (≤_or b c);
     }
   where
@@ -159,14 +159,14 @@ cohesive N A s g n area f h =
     low_x : whole (min b c) ≤F x
     low_x = omega (arith, min-le_left b c · area.den, down_le (A * s) 1000000 · area.den, h.low · s)
 
-    low-y : whole (min b c) ≤F y
-    low-y = omega (arith, min-le_right b c · n.den, down_le (2 * N) 5 · n.den, f.low)
+    low_y : whole (min b c) ≤F y
+    low_y = omega (arith, min-le_right b c · n.den, down_le (2 * N) 5 · n.den, f.low)
 
     high_x : (x +F whole 1) <F (whole b +F amount)
     high_x = omega (arith, down_lt (A * s) 1000000 (omega arith) · area.den, h.high · s, h.proper)
 
-    high-y : (y +F whole 1) <F (whole c +F amount)
-    high-y = omega (arith, down_lt (2 * N) 5 (omega arith) · n.den, f.high, f.proper)
+    high_y : (y +F whole 1) <F (whole c +F amount)
+    high_y = omega (arith, down_lt (2 * N) 5 (omega arith) · n.den, f.high, f.proper)
 
     -- what is at most a fraction that is short by under the amount is so too
     under : (z w : Fraction) (k : ℕ) → z ≤F w → Proper z → (w +F whole 1) <F (whole k +F amount) → (z +F whole 1) <F (whole k +F amount)
@@ -179,7 +179,7 @@ cohesive N A s g n area f h =
     by (inr l) =
         let m : c ≤ b = omega arith in
         rw (min-eq_right m)
-        (under (smaller x y) y c (smaller_≤_second x y) (smaller_either x y Proper (omega (arith, h.proper)) (omega (arith, f.proper))) high-y)
+        (under (smaller x y) y c (smaller_≤_second x y) (smaller_either x y Proper (omega (arith, h.proper)) (omega (arith, f.proper))) high_y)
 
 -- a larger amount
 pub enough : (b : ℕ) (exact x y : Fraction) → Proper x → Proper y → x ≤F y → Base b exact x → Base b exact y

@@ -79,7 +79,7 @@ pub record ResistanceAlone (before after : Row) : Type 0 where
 -- what setting bit 2 changes, of a footing that has it clear
 pub record Declares (s : Settings) (f : Footing) (clear : contact f ≡ false) (soil : Soil) (sensitive minus : Bool) : Type 0 where
   pub declared : contact (with_contact f) ≡ true
-  pub both_flags_lem : both_flags (with_contact f) ≡ both_flags f
+  pub both_flags_kept : both_flags (with_contact f) ≡ both_flags f
   pub rows : ResistanceAlone (footing_row s f soil sensitive minus) (footing_row s (with_contact f) soil sensitive minus)
   -- where N is at least 20,000, R grows by 2·P/5 down
   pub grows :

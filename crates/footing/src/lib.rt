@@ -1,12 +1,14 @@
 // A footing's row for one of the two directions: N, the eccentricities, H against the sliding resistance.
 // 01, "Soil and footing" and "Rows and verdict bits". What demand 3 claims of the row is in specs/Claimed.antt.
+#![tactic(auto)]
+
 ghost use Rattle.std.specs.Prelude.{◌≡◌, ◌&&◌, ◌-◌, ◌*◌, ◌≤◌, ◌<◌, ltb, pos, nat_abs, ◌*ℤ◌};
 ghost use Rattle.exact.specs.Fraction.{up_f};
 ghost use Rattle.exact.specs.SignedFraction.{size, down_s};
 ghost use Rattle.coefficient.specs.Coefficient.{fraction};
 ghost use Rattle.footing.specs.Flags.{counted_thrust};
 ghost use Rattle.footing.specs.Actions.{footing_coefficient, action};
-ghost use Rattle.footing.specs.Rows.{FootingRange, footing_row, heavy_row, light_row, eccentricity, effective_area, base_resistance, sliding_resistance, exception, outside as outsideOf, eccentric as eccentricOf};
+ghost use Rattle.footing.specs.Rows.{FootingRange, footing_row, heavy_row, light_row, eccentricity, effective_area, base_resistance, sliding_resistance, exception, outside as outside_of, eccentric as eccentric_of};
 ghost use Rattle.footing.specs.Ranges.{turned, Capped, ActionRange, RowRange};
 
 use claims::Row;
@@ -18,7 +20,7 @@ const LEAST_NORMAL: i64 = 20_000;
 
 // 01's B, L; MR, ME of the element above; normal force, moment along B, moment along L and horizontal force, each non-seismic
 // (v) and seismic (e); U; P; bit 0 of the flags: uncertainties minimised, bit 1: strict tolerances, bit 2: full contact, so that P counts.
-#[derive(Drop)]
+#[derive(Clone, Copy)]
 pub struct Footing {
     pub breadth: u32,
     pub length: u32,
@@ -51,19 +53,19 @@ pub fn footing_coefficient(settings: Settings, f: Footing) -> Quotient
     a.value
 }
 
-// ---- the actions V ± typeof.a.E
+// ---- the actions V ± a·E
 
-// ± typeof.a.E over the denominator of a.
+// ± a·E over the denominator of a.
 fn seismic_part(a: Quotient, e: i32, minus: bool) -> i64
-    requires fact_1 { Capped a }
-    requires fact_2 { nat_abs e ≤ 100000000 }
+    requires coefficient { Capped a }
+    requires seismic { nat_abs e ≤ 100000000 }
     ensures { result ≡ turned minus (pos a.num *ℤ e) }
 {
     let part = claims::word(a.num) * exact::long(e);
     if minus { 0 - part } else { part }
 }
 
-// V ± typeof.a.E, down.
+// V ± a·E, down.
 fn action_down(a: Quotient, v: i32, e: i32, minus: bool) -> i64
     requires { ActionRange a v e }
     ensures { result ≡ down_s (action minus (fraction a) v e) }
@@ -75,7 +77,7 @@ fn action_down(a: Quotient, v: i32, e: i32, minus: bool) -> i64
     )
 }
 
-// The size of V ± typeof.a.E without its sign, up.
+// The size of V ± a·E without its sign, up.
 fn action_size(a: Quotient, v: i32, e: i32, minus: bool) -> u64
     requires { ActionRange a v e }
     ensures { result ≡ up_f (size (action minus (fraction a) v e)) }
@@ -87,10 +89,10 @@ fn action_size(a: Quotient, v: i32, e: i32, minus: bool) -> u64
     ) as u64
 }
 
-// 1000 times the size of V ± typeof.a.E over N, up.
+// 1000 times the size of V ± a·E over N, up.
 fn eccentricity_up(a: Quotient, v: i32, e: i32, minus: bool, n: u64) -> u64
-    requires fact_1 { ActionRange a v e }
-    requires fact_2 { 0 < n }
+    requires range { ActionRange a v e }
+    requires positive { 0 < n }
     ensures { result ≡ eccentricity (up_f (size (action minus (fraction a) v e))) n }
 {
     let x = action_size(a, v, e, minus);
@@ -108,19 +110,20 @@ fn excess(x: u64, y: u64) -> u64
 
 // A: both sides less twice their eccentricities.
 fn effective_area(f: Footing, ex: u64, ey: u64) -> u64
-    requires fact_1 { f.breadth ≤ 20000 }
-    requires fact_2 { f.length ≤ 20000 }
-    requires fact_3 { ex ≤ 500000000000 }
-    requires fact_4 { ey ≤ 500000000000 }
+    requires breadth { f.breadth ≤ 20000 }
+    requires length { f.length ≤ 20000 }
+    requires ex { ex ≤ 500000000000 }
+    requires ey { ey ≤ 500000000000 }
     ensures { result ≡ effective_area f ex ey }
 {
     excess(f.breadth as u64, 2 * ex) * excess(f.length as u64, 2 * ey)
 }
 
 // The resistance of the base, by the kind of soil.
+#[tactic(auto, unfolding(crate::specs::Rows::base_resistance, exact::specs::Quotient::down))]
 fn base_resistance(soil: Soil, area: u64, n: u64, uplift: u32) -> u64
-    requires fact_1 { area ≤ 400000000 }
-    requires fact_2 { n ≤ 500000000 }
+    requires area { area ≤ 400000000 }
+    requires normal { n ≤ 500000000 }
     ensures { result ≡ base_resistance soil area n uplift }
 {
     match soil {
@@ -144,11 +147,11 @@ fn counted_thrust(f: Footing) -> u32
 
 // R: the base, and two fifths of the passive thrust that counts.
 fn sliding_resistance(f: Footing, soil: Soil, ex: u64, ey: u64, n: u64) -> u64
-    requires fact_1 { f.breadth ≤ 20000 }
-    requires fact_2 { f.length ≤ 20000 }
-    requires fact_3 { ex ≤ 500000000000 }
-    requires fact_4 { ey ≤ 500000000000 }
-    requires fact_5 { n ≤ 500000000 }
+    requires breadth { f.breadth ≤ 20000 }
+    requires length { f.length ≤ 20000 }
+    requires ex { ex ≤ 500000000000 }
+    requires ey { ey ≤ 500000000000 }
+    requires normal { n ≤ 500000000 }
     ensures { result ≡ sliding_resistance f soil ex ey n }
 {
     let area = effective_area(f, ex, ey);
@@ -160,18 +163,18 @@ fn sliding_resistance(f: Footing, soil: Soil, ex: u64, ey: u64, n: u64) -> u64
 
 // n·ex exceeds B, or n·ey exceeds L.
 fn outside(n: u64, f: Footing, ex: u64, ey: u64) -> bool
-    requires fact_1 { n ≤ 4 }
-    requires fact_2 { ex ≤ 500000000000 }
-    requires fact_3 { ey ≤ 500000000000 }
-    ensures { result ≡ outsideOf n f ex ey }
+    requires factor { n ≤ 4 }
+    requires ex { ex ≤ 500000000000 }
+    requires ey { ey ≤ 500000000000 }
+    ensures { result ≡ outside_of n f ex ey }
 {
     (f.breadth as u64) < n * ex || (f.length as u64) < n * ey
 }
 
 // 2ex is below B, and 2ey below L.
 fn inside_halves(f: Footing, ex: u64, ey: u64) -> bool
-    requires fact_1 { ex ≤ 500000000000 }
-    requires fact_2 { ey ≤ 500000000000 }
+    requires ex { ex ≤ 500000000000 }
+    requires ey { ey ≤ 500000000000 }
     ensures { result ≡ (ltb (2 * ex) f.breadth && ltb (2 * ey) f.length) }
 {
     2 * ex < (f.breadth as u64) && 2 * ey < (f.length as u64)
@@ -179,8 +182,8 @@ fn inside_halves(f: Footing, ex: u64, ey: u64) -> bool
 
 // Flags (bits 0 and 1 both set), q and a meet the exception.
 fn excepted(behaviour: u32, f: Footing, a: Quotient) -> bool
-    requires fact_1 { Capped a }
-    requires fact_2 { behaviour ≤ 400 }
+    requires coefficient { Capped a }
+    requires behaviour { behaviour ≤ 400 }
     ensures { result ≡ exception behaviour f (fraction a) }
 {
     if f.flags % 4 != 3 {
@@ -194,11 +197,11 @@ fn excepted(behaviour: u32, f: Footing, a: Quotient) -> bool
 
 // The resultant lies too far out.
 fn eccentric(behaviour: u32, f: Footing, a: Quotient, sensitive: bool, ex: u64, ey: u64) -> bool
-    requires fact_1 { Capped a }
-    requires fact_2 { behaviour ≤ 400 }
-    requires fact_3 { ex ≤ 500000000000 }
-    requires fact_4 { ey ≤ 500000000000 }
-    ensures { result ≡ eccentricOf behaviour f (fraction a) sensitive ex ey }
+    requires coefficient { Capped a }
+    requires behaviour { behaviour ≤ 400 }
+    requires ex { ex ≤ 500000000000 }
+    requires ey { ey ≤ 500000000000 }
+    ensures { result ≡ eccentric_of behaviour f (fraction a) sensitive ex ey }
 {
     if sensitive {
         return outside(4, f, ex, ey);

@@ -42,10 +42,10 @@ first_none (f ∷ fs) (v ∷ vs) e b = rw (b 0 (omega arith)) (ap suc (first_non
 
 -- a command with this byte and these operands
 module _ (c : Command) (byte : ℕ) (vs : List ℕ) (e : byte_of c ≡ byte) (o : operands_of c ≡ vs) (n : length vs ≡ length (forms_of byte)) where
-  pub operand-found : (i : ℕ) → i < length (forms_of byte) → InBefore (forms_of byte) vs i → form_in_range (get_or (forms_of byte) i Id) (at vs i) ≡ false → operand_at_fault c ≡ i
+  pub operand_found : (i : ℕ) → i < length (forms_of byte) → InBefore (forms_of byte) vs i → form_in_range (get_or (forms_of byte) i Id) (at vs i) ≡ false → operand_at_fault c ≡ i
   unfolding operand_at_fault
-  operand-found i l h f = rw (e, o, first_is (forms_of byte) vs i n l h f, lt-ltb i (length (forms_of byte)) l)
+  operand_found i l h f = rw (e, o, first_is (forms_of byte) vs i n l h f, lt-ltb i (length (forms_of byte)) l)
 
-  pub relation-found : InBefore (forms_of byte) vs (length (forms_of byte)) → operand_at_fault c ≡ relation_names byte
+  pub relation_found : InBefore (forms_of byte) vs (length (forms_of byte)) → operand_at_fault c ≡ relation_names byte
   unfolding operand_at_fault
-  relation-found h = rw (e, o, first_none (forms_of byte) vs n h, le-ltb (length (forms_of byte)) (length (forms_of byte)) (omega arith))
+  relation_found h = rw (e, o, first_none (forms_of byte) vs n h, le-ltb (length (forms_of byte)) (length (forms_of byte)) (omega arith))

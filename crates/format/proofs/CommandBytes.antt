@@ -3,7 +3,6 @@ use mathlib.Core.Path.{◌≡◌, refl}
 use Prim.Native.Nat.{ℕ, zero, suc, ◌<◌}
 use native.Mathlib.Omega.{arith}
 use Rattle.layout.proofs.KnownBytes.{other}
-use Rattle.layout.proofs.Keys.{NoneFrom, from_none}
 use Rattle.format.specs.Commands.{finish, command_of}
 
 pub command_above : (b : ℕ) (v : ℕ → ℕ) → 10 < b → command_of b v ≡ finish
@@ -11,7 +10,7 @@ unfolding command_of
 command_above b v h = simp (other b h)
 
 -- nor a byte that is none of 1 to 10
-pub no_command : (b : ℕ) (v : ℕ → ℕ) → NoneFrom 1 10 b → command_of b v ≡ finish
+pub no_command : (b : ℕ) (v : ℕ → ℕ) → (0 < b → 10 < b) → command_of b v ≡ finish
 unfolding command_of
 no_command zero v h = refl
-no_command (suc b) v h = command_above (suc b) v (omega (arith, from_none 1 10 (suc b) h (omega arith)))
+no_command (suc b) v h = command_above (suc b) v (h (omega arith))

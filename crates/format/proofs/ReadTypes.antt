@@ -7,7 +7,7 @@ use Rattle.layout.specs.Forms.{width}
 use Rattle.layout.specs.Layouts.{forms_of, forms_in}
 use Rattle.layout.specs.Operands.{byte_at, operands_at}
 use Rattle.layout.proofs.Numbers.{Bytes, signed_fits}
-use Rattle.layout.proofs.KnownBytes.{each-byte}
+use Rattle.layout.proofs.KnownBytes.{each_byte}
 use Rattle.layout.proofs.OperandsRead.{Fit, at, operands_fit}
 use Rattle.format.specs.Commands.{command_of}
 use Rattle.format.specs.Reading.{command_at}
@@ -17,7 +17,7 @@ use Rattle.format.proofs.CommandBytes.{command_above}
 types_of : (byte : ℕ) (v : ℕ → ℕ) → Fit byte v → OfTypes (command_of byte v)
 unfolding command_of forms_of forms_in width
 types_of byte v =
-    each-byte (λ b. Fit b v → OfTypes (command_of b v)) (λ f. tt) (λ f. tt) (λ f. f 0 (lit< tt)) (λ f. tt)
+    each_byte (λ b. Fit b v → OfTypes (command_of b v)) (λ f. tt) (λ f. tt) (λ f. f 0 (lit< tt)) (λ f. tt)
     (λ f. signed_fits (v 5) (f 5 (lit< tt))) (λ f. (f 1 (lit< tt), f 2 (lit< tt), signed_fits (v 5) (f 5 (lit< tt)))) (λ f. tt) (λ f. tt) (λ f. f 1 (lit< tt))
     (λ f.
     record {

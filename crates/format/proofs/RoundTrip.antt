@@ -10,7 +10,7 @@ use Rattle.layout.specs.Layouts.{forms_of, forms_in}
 use Rattle.format.specs.Commands.{byte_of, operands_of, command_of}
 use Rattle.layout.proofs.Numbers.{bits_of_signed}
 use Rattle.layout.proofs.OperandsRead.{at, Fit}
-use Rattle.layout.proofs.KnownBytes.{each-byte, forms_above}
+use Rattle.layout.proofs.KnownBytes.{each_byte, forms_above}
 use Rattle.format.proofs.CommandBytes.{command_above}
 
 firsts : ℕ → (ℕ → ℕ) → List ℕ
@@ -31,7 +31,7 @@ Back byte = (vs : List ℕ) → length vs ≡ length (forms_of byte) → Fit byt
 pub operands_back : (byte : ℕ) (vs : List ℕ) → length vs ≡ length (forms_of byte) → Fit byte (at vs) → operands_of (command_of byte (at vs)) ≡ vs
 unfolding forms_of forms_in command_of width firsts
 operands_back =
-    each-byte Back
+    each_byte Back
     (λ vs e f. listed_to 0 vs e)
     (λ vs e f. listed_to 3 vs e)
     (λ vs e f. listed_to 4 vs e)
@@ -58,7 +58,7 @@ operands_back =
 pub byte_back : (byte : ℕ) (v : ℕ → ℕ) → byte ≤ 10 → byte_of (command_of byte v) ≡ byte
 unfolding command_of
 byte_back byte v =
-    each-byte (λ b. b ≤ 10 → byte_of (command_of b v) ≡ b) (λ h. refl) (λ h. refl) (λ h. refl) (λ h. refl) (λ h. refl)
+    each_byte (λ b. b ≤ 10 → byte_of (command_of b v) ≡ b) (λ h. refl) (λ h. refl) (λ h. refl) (λ h. refl) (λ h. refl)
     (λ h. refl) (λ h. refl) (λ h. refl) (λ h. refl) (λ h. refl) (λ h. refl) (λ b h k. absurd (apart b h k)) byte
   where
     apart : (b : ℕ) → 10 < b → b ≤ 10 → ⊥
@@ -68,5 +68,5 @@ byte_back byte v =
 pub forms_back : (byte : ℕ) (v : ℕ → ℕ) → forms_of (byte_of (command_of byte v)) ≡ forms_of byte
 unfolding forms_of forms_in command_of
 forms_back byte v =
-    each-byte (λ b. forms_of (byte_of (command_of b v)) ≡ forms_of b) refl refl refl refl refl refl refl refl refl refl refl
+    each_byte (λ b. forms_of (byte_of (command_of b v)) ≡ forms_of b) refl refl refl refl refl refl refl refl refl refl refl
     (λ b h. rw (command_above b v h, forms_above b h)) byte

@@ -15,19 +15,19 @@ use Rattle.layout.specs.Forms.{width, form_in_range}
 use Rattle.layout.specs.Layouts.{known, forms_of, forms_in, operands_width}
 use Rattle.layout.specs.Operands.{offset_of, operand, byte_at, read_operands}
 use Rattle.layout.proofs.Numbers.{Bytes}
-use Rattle.layout.proofs.KnownBytes.{each-byte, forms_above}
+use Rattle.layout.proofs.KnownBytes.{each_byte, forms_above}
 use Rattle.layout.proofs.OperandsRead.{at as value_at, offset_first, offset_step, offset_in_command, operand_at, read_length}
 use Rattle.format.specs.declared.Command.{Command}
 use Rattle.format.specs.Commands.{byte_of, operands_of, relation_names, operand_at_fault}
 use Rattle.format.specs.Reading.{command_at}
-use Rattle.format.proofs.CommandRead.{byte-read, operands-read}
-use Rattle.format.proofs.AtFault.{InBefore, operand-found, relation-found}
+use Rattle.format.proofs.CommandRead.{byte_read, operands_read}
+use Rattle.format.proofs.AtFault.{InBefore, operand_found, relation_found}
 
 -- a place fits 32 bits
 pub count_le : (byte : ℕ) → length (forms_of byte) ≤ 16
 unfolding forms_of forms_in
 count_le byte =
-    each-byte (λ b. length (forms_of b) ≤ 16) (lit≤ tt) (lit≤ tt) (lit≤ tt) (lit≤ tt) (lit≤ tt) (lit≤ tt) (lit≤ tt) (lit≤ tt) (lit≤ tt) (lit≤ tt) (lit≤ tt)
+    each_byte (λ b. length (forms_of b) ≤ 16) (lit≤ tt) (lit≤ tt) (lit≤ tt) (lit≤ tt) (lit≤ tt) (lit≤ tt) (lit≤ tt) (lit≤ tt) (lit≤ tt) (lit≤ tt) (lit≤ tt)
     (λ b h. subst (λ (fs : List Form). length fs ≤ 16) (sym (forms_above b h)) (lit≤ tt)) byte
 
 -- the operands of this byte's forms that start at an offset
@@ -58,7 +58,7 @@ pub record Scanned (job : List ℕ) (byte start : ℕ) (c : Command) : Type 0 wh
 
 -- the command at an offset has those behind its byte
 pub command_scanned : (job : List ℕ) (offset : ℕ) → Bytes job → known (byte_at job offset) ≡ true → Scanned job (byte_at job offset) (offset + 1) (command_at job offset)
-command_scanned job offset b k = record { byte_is = byte-read job offset k; operands = operands-read job offset b }
+command_scanned job offset b k = record { byte_is = byte_read job offset k; operands = operands_read job offset b }
 
 module _ (job : List ℕ) (byte start place at : ℕ) (s : Scanning job byte start place at) where
   module _ (h : place < length (forms_of byte)) where
@@ -66,8 +66,8 @@ module _ (job : List ℕ) (byte start place at : ℕ) (s : Scanning job byte sta
     pub next_fits : start + operands_width byte ≤ length job → at + width (get_or (forms_of byte) place Id) ≤ length job
     next_fits w = omega (arith, s.at_is, offset_in_command byte place h)
 
-    pub place-fits : place < 16
-    place-fits = omega (arith, count_le byte)
+    pub place_fits : place < 16
+    place_fits = omega (arith, count_le byte)
 
     module _ (value : ℕ) (e : value ≡ number (take (width (get_or (forms_of byte) place Id)) (drop at job))) where
       -- it is the operand of the specification
@@ -78,11 +78,11 @@ module _ (job : List ℕ) (byte start place at : ℕ) (s : Scanning job byte sta
 
       pub found : (c : Command) → Scanned job byte start c → form_in_range (get_or (forms_of byte) place Id) value ≡ false → operand_at_fault c ≡ place
       found c k f =
-          operand-found c byte (operands_from job byte start) k.byte_is k.operands (read_length (forms_of byte) (drop start job)) place h s.ranged
+          operand_found c byte (operands_from job byte start) k.byte_is k.operands (read_length (forms_of byte) (drop start job)) place h s.ranged
           (ap (λ (v : ℕ). form_in_range (get_or (forms_of byte) place Id) v) (sym next_is) ∙ f)
 
-      pub scans-on : form_in_range (get_or (forms_of byte) place Id) value ≡ true → Scanning job byte start (place + 1) (at + width (get_or (forms_of byte) place Id))
-      scans-on f =
+      pub scans_on : form_in_range (get_or (forms_of byte) place Id) value ≡ true → Scanning job byte start (place + 1) (at + width (get_or (forms_of byte) place Id))
+      scans_on f =
           record {
             within = omega arith;
             at_is = omega (arith, s.at_is, offset_step (forms_of byte) place);
@@ -97,4 +97,4 @@ module _ (job : List ℕ) (byte start place at : ℕ) (s : Scanning job byte sta
   pub scanned : length (forms_of byte) ≤ place → (c : Command) → Scanned job byte start c → operand_at_fault c ≡ relation_names byte
   scanned l c k =
       let e : place ≡ length (forms_of byte) = omega (arith, s.within) in
-      relation-found c byte (operands_from job byte start) k.byte_is k.operands (read_length (forms_of byte) (drop start job)) (rw e at s.ranged)
+      relation_found c byte (operands_from job byte start) k.byte_is k.operands (read_length (forms_of byte) (drop start job)) (rw e at s.ranged)

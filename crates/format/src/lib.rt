@@ -1,4 +1,6 @@
 // The commands of a job: one value with its operands, read at an offset; the range test of its values. 01, "Job commands".
+#![tactic(auto)]
+
 ghost use Rattle.std.specs.Prelude.{◌≡◌, ◌+◌, ◌≤◌, length};
 ghost use Rattle.soil.specs.Reading.{soil_allowed};
 ghost use Rattle.layout.specs.Layouts.{operands_width};
@@ -13,7 +15,7 @@ use quantity::{Factor, Force, Length, Moment};
 use walls::{Storey, WallBase};
 
 // A soil as it is given: kind 0 granular, 1 cohesive; the 32 bits of the value; sensitive 0 or 1.
-#[derive(Drop)]
+#[derive(Clone, Copy)]
 pub struct SoilGiven {
     pub kind: u32,
     pub value: u32,
@@ -21,7 +23,7 @@ pub struct SoilGiven {
 }
 
 // A command with its operands; a joint under its id, a member without hinges between two joints, by their ids.
-#[derive(Drop)]
+#[derive(Clone, Copy)]
 pub enum Command {
     Finish,
     Settings(Settings),

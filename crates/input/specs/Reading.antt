@@ -1,8 +1,6 @@
 -- The number of bytes that a reading gives: 0 where it failed. Assumes nothing.
-use Rattle.std.specs.Prelude.{ℕ}
-use Rattle.input.specs.declared.Input.{Input}
-use Rattle.input.specs.declared.Input.TheVariants.{Bytes, Failed}
+use Rattle.std.specs.Prelude.{ℕ, Result, Ok, Err}
 
-abbrev pub bytes_read : Input → ℕ
-bytes_read (Bytes n) = n
-bytes_read Failed = 0
+abbrev pub bytes_read : {E : Type 0} → Result ℕ E → ℕ
+bytes_read (Ok n) = n
+bytes_read (Err e) = 0

@@ -1,41 +1,35 @@
-// All bytes of an open descriptor, up to the size of a buffer; the end of the input is told from a read that failed.
-ghost use Rattle.std.specs.Prelude.{◌≤◌, length};
+// All bytes of a reader, up to the size of a buffer; the end of the input is told from a read that failed.
+#![tactic(auto)]
+
+ghost use Rattle.std.specs.Prelude.{◌≡◌, ◌<◌, ◌≤◌, length, take, IfOk};
+ghost use Rattle.std.specs.Io.KnownBytes.{Consumes, IsAtEnd};
 ghost use Rattle.input.specs.Reading.{bytes_read};
 
-#[derive(Drop)]
-pub enum Input {
-    // The bytes at the start of the buffer. Where they fill it, there may be more.
-    Bytes(usize),
-    Failed,
-}
+use std::io;
+use std::io::Read;
 
 // One read; 0 bytes at the end of the input.
-fn read_some(descriptor: i32, buffer: &mut [u8]) -> Input
-    ensures { bytes_read result ≤ length buffer.new }
+fn read_some<R: Read>(reader: &mut R, buffer: &mut [u8]) -> io::Result<usize>
+    ensures bound { bytes_read result ≤ length buffer.new }
+    ensures bytes { IfOk result (λ n. Consumes (R.remaining reader.old) (R.remaining reader.new) (take n buffer.new)) }
+    ensures end { 0 < length buffer.old → IfOk result (λ n. n ≡ 0 → IsAtEnd (R.remaining reader.new)) }
 {
-    let got = libc::read(descriptor, buffer);
-    if got < 0 {
-        return Input::Failed;
-    }
-    Input::Bytes(io::count(got, buffer))
+    reader.read(buffer)
 }
 
-// Reads to the end of the input, or until the buffer is full.
-pub fn read_all(descriptor: i32, buffer: &mut [u8]) -> Input
-    ensures { bytes_read result ≤ length buffer.new }
+// Reads to the end of the input, or until the buffer is full: then there may be more.
+pub fn read_all<R: Read>(reader: &mut R, buffer: &mut [u8]) -> io::Result<usize>
+    ensures bound { bytes_read result ≤ length buffer.new }
+    ensures bytes { IfOk result (λ n. Consumes (R.remaining reader.old) (R.remaining reader.new) (take n buffer.new)) }
+    ensures end { IfOk result (λ n. n < length buffer.new → IsAtEnd (R.remaining reader.new)) }
 {
     let mut have: usize = 0;
     while have < buffer.len() {
-        let some = read_some(descriptor, &mut buffer[have..]);
-        match some {
-            Input::Failed => return Input::Failed,
-            Input::Bytes(more) => {
-                if more == 0 {
-                    return Input::Bytes(have);
-                }
-                have += more;
-            }
+        let more = read_some(reader, &mut buffer[have..])?;
+        if more == 0 {
+            return Ok(have);
         }
+        have += more;
     }
-    Input::Bytes(have)
+    Ok(have)
 }

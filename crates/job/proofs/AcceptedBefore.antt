@@ -12,7 +12,7 @@ use Rattle.context.specs.Context.{Context, nothing, given}
 use Rattle.job.specs.Faults.{Tests, tests_at, first_of, after_command}
 use Rattle.job.specs.Placed.{Placed, Entry, entry_at, Listing, refused, accepted, before, listed_by, listed_with, listed, placed_of, placed_with, placed}
 use Rattle.job.specs.Earlier.{joint_in}
-use Rattle.job.proofs.PlacedCases.{not_both, weight_at, context_behind, rest_after, placed_end, placed-goes, by_cases, placed_from}
+use Rattle.job.proofs.PlacedCases.{not_both, weight_at, context_behind, rest_after, placed_end, placed_goes, by_cases, placed_from}
 
 -- where these tests find no fault, those find none
 abbrev pub Stricter : Tests → Tests → Type 0
@@ -27,7 +27,7 @@ module _ (more fewer : Tests) (s : Stricter more fewer) (job : List ℕ) where
       (λ l q. absurd (not_both q)) (λ l k f q. absurd (not_both q)) (λ l f b m q. absurd (not_both q))
       (λ l f b m q. placed_end fewer n job at count h l (s job at count h f) b m ∙ q)
       (λ l f b q.
-      placed-goes fewer n job at count h l (s job at count h f) b
+      placed_goes fewer n job at count h l (s job at count h f) b
       ∙ on (rest_after more n job at count h) (from n (after_command job at) (count + weight_at job at) (context_behind job at h)) q)
     where
       on : (j : Listing) → ((qs : List Entry) → j ≡ accepted qs → rest_after fewer n job at count h ≡ accepted qs) → before (entry_at job at h) j ≡ accepted es →
@@ -36,8 +36,8 @@ module _ (more fewer : Tests) (s : Stricter more fewer) (job : List ℕ) where
       on (accepted qs) ih q = ap (before (entry_at job at h)) (ih qs refl) ∙ q
 
   -- what is accepted with more tests is accepted with fewer, with the same commands of the file
-  pub fewer-tests : (es : List Entry) → listed_with more job ≡ accepted es → listed_with fewer job ≡ accepted es
-  fewer-tests es e = from 4097 0 0 nothing es e
+  pub fewer_tests : (es : List Entry) → listed_with more job ≡ accepted es → listed_with fewer job ≡ accepted es
+  fewer_tests es e = from 4097 0 0 nothing es e
 
 -- ---- the tests of document 01
 
@@ -60,4 +60,4 @@ pub accepted_before : (job : List ℕ) (ps : List Placed) → placed_with (with7
 unfolding placed listed
 accepted_before job ps e =
     let (es, l, q) = placed_from (listed_with (with7 tests_at) job) ps e in
-    ap placed_of (fewer-tests (with7 tests_at) tests_at (λ job at count h f. first_none (tests_at job at count h) _ f) job es l) ∙ ap accepted q
+    ap placed_of (fewer_tests (with7 tests_at) tests_at (λ job at count h f. first_none (tests_at job at count h) _ f) job es l) ∙ ap accepted q

@@ -20,12 +20,12 @@ use Rattle.layout.proofs.OperandsRead.{at}
 use Rattle.blocks.specs.Sets.{is_block}
 use Rattle.blocks.specs.FileCommands.{FileCommand, one, file_command_at}
 use Rattle.blocks.proofs.FileCommands.{at_one}
-use Rattle.context.specs.Context.{Context, nothing, next, given}
+use Rattle.context.specs.Context.{Context, nothing, next}
 use Rattle.job.specs.Faults.{after_command, tests_at, misplaced}
 use Rattle.job.specs.Placed.{Placed, context_after, place_each, Entry, entry_at, commands_in, placed_in, placed_all, Listing, refused, accepted, before, listed_by, listed, placed}
 use Rattle.job.specs.Earlier.{widths_of}
-use Rattle.job.proofs.Faultless.{Standing, passed, end-of, faultless, block-faultless}
-use Rattle.job.proofs.Reached.{Stands, reached-accepted, reached-each, reached-placed}
+use Rattle.job.proofs.Faultless.{Standing, passed, end_of_lem, faultless, block_faultless}
+use Rattle.job.proofs.Reached.{Stands, reached_accepted, reached_each, reached_placed}
 use Rattle.job.proofs.PlacedCases.{fault_at, not_both, weight_at, context_behind, rest_after, by_cases, listed_of}
 
 -- as many placed commands as are given
@@ -48,16 +48,16 @@ module _ (job : List ℕ) (offset count : ℕ) (h : Context) (z : fault_at job o
   filled_more : (es : List Entry) → Filled job (after_command job offset) (count + weight_at job offset) es → Filled job offset count (entry_at job offset h ∷ es)
   filled_more es g =
       let here = entry_at job offset h in
-      let s : offset + widths_of (here ∷ es) ≡ after_command job offset + widths_of es = omega (arith, end-of job offset count h z) in
+      let s : offset + widths_of (here ∷ es) ≡ after_command job offset + widths_of es = omega (arith, end_of_lem job offset count h z) in
       record {
         few = omega (arith, g.few, length-append (placed_in here) (placed_all es), placed_many h (commands_in here));
         widths = omega (arith, g.widths);
         last = ap (λ (k : ℕ). byte_at job k) s ∙ g.last;
       }
 
-  filling-more : (j : Listing) → Filling job (after_command job offset) (count + weight_at job offset) j → Filling job offset count (before (entry_at job offset h) j)
-  filling-more (refused number at) g = tt
-  filling-more (accepted es) g = filled_more es g
+  filling_more : (j : Listing) → Filling job (after_command job offset) (count + weight_at job offset) j → Filling job offset count (before (entry_at job offset h) j)
+  filling_more (refused number at) g = tt
+  filling_more (accepted es) g = filled_more es g
 
 filling : (n : ℕ) (job : List ℕ) (offset count : ℕ) (h : Context) → count ≤ 4096 → Filling job offset count (listed_by tests_at n job offset count h)
 unfolding listed_by
@@ -66,7 +66,7 @@ filling (suc n) job offset count h c =
     by_cases tests_at n job offset count h (Filling job offset count) (λ l. tt) (λ l k e. tt) (λ l e b m. tt)
     (λ l e b m. record { few = omega arith; widths = omega arith; last = ap (λ (k : ℕ). byte_at job k) (add-zero offset) ∙ b })
     (λ l e b.
-    filling-more job offset count h e (rest_after tests_at n job offset count h)
+    filling_more job offset count h e (rest_after tests_at n job offset count h)
     (filling n job (after_command job offset) (count + weight_at job offset) (context_behind job offset h) ((passed job offset count h e).few b)))
 
 -- ---- the first command
@@ -87,20 +87,20 @@ BeginsWithSettings ps = (s : Settings) × (later : List Placed) × (ps ≡ recor
 begins : (n : ℕ) (job : List ℕ) (es : List Entry) → listed_by tests_at (suc n) job 0 0 nothing ≡ accepted es → BeginsWithSettings (placed_all es)
 begins n job es =
     by_cases tests_at n job 0 0 nothing (λ j. j ≡ accepted es → BeginsWithSettings (placed_all es)) (λ l q. absurd (not_both q)) (λ l k f q. absurd (not_both q)) (λ l f b m q. absurd (not_both q))
-    (λ l f b m q. absurd (no-first b (first f))) (λ l f b q. front (rest_after tests_at n job 0 0 nothing) q (given-first (first f)))
+    (λ l f b m q. absurd (no_first b (first f))) (λ l f b q. front (rest_after tests_at n job 0 0 nothing) q (given_first (first f)))
   where
-    misplaced-first : (k : Bool) → is_block (byte_at job 0) ≡ k → fault_at job 0 0 nothing ≡ 0 → misplaced (byte_at job 0) false ≡ false
-    misplaced-first true b f = (block-faultless job 0 0 nothing b f).settings
-    misplaced-first false b f = (faultless job 0 0 nothing b f).settings
+    misplaced_first : (k : Bool) → is_block (byte_at job 0) ≡ k → fault_at job 0 0 nothing ≡ 0 → misplaced (byte_at job 0) false ≡ false
+    misplaced_first true b f = (block_faultless job 0 0 nothing b f).settings
+    misplaced_first false b f = (faultless job 0 0 nothing b f).settings
 
     first : fault_at job 0 0 nothing ≡ 0 → byte_at job 0 ≡ 1
-    first f = first_byte (byte_at job 0) (misplaced-first (is_block (byte_at job 0)) refl f)
+    first f = first_byte (byte_at job 0) (misplaced_first (is_block (byte_at job 0)) refl f)
 
-    given-first : byte_at job 0 ≡ 1 → file_command_at job 0 ≡ one (settings (settings_of (at (operands_at job 0))))
-    given-first e = at_one job 0 (ap is_block e) ∙ ap one (settings_read job 0 e)
+    given_first : byte_at job 0 ≡ 1 → file_command_at job 0 ≡ one (settings (settings_of (at (operands_at job 0))))
+    given_first e = at_one job 0 (ap is_block e) ∙ ap one (settings_read job 0 e)
 
-    no-first : {byte : ℕ} → byte ≡ 0 → byte ≡ 1 → ⊥
-    no-first b c = omega arith
+    no_first : {byte : ℕ} → byte ≡ 0 → byte ≡ 1 → ⊥
+    no_first b c = omega arith
 
     front : (j : Listing) → before (entry_at job 0 nothing) j ≡ accepted es → file_command_at job 0 ≡ one (settings (settings_of (at (operands_at job 0)))) → BeginsWithSettings (placed_all es)
     front (refused number offset) q c = absurd (not_both q)
@@ -119,31 +119,31 @@ module _ (job : List ℕ) (es : List Entry) (e : listed job ≡ accepted es) whe
   filled = subst (Filling job 0 0) e (filling 4097 job 0 0 nothing (omega arith))
 
   -- each stands in the job where those before it end, and is no end; what holds at it is what they leave
-  pub listed-each : (earlier : List Entry) (x : Entry) (later : List Entry) → es ≡ earlier ++ x ∷ later → Stands job (widths_of earlier) (context_after nothing (placed_all earlier)) x
-  listed-each earlier x later q = reached-each job earlier x later (reached-accepted job es e ∙ q)
+  pub listed_each : (earlier : List Entry) (x : Entry) (later : List Entry) → es ≡ earlier ++ x ∷ later → Stands job (widths_of earlier) (context_after nothing (placed_all earlier)) x
+  listed_each earlier x later q = reached_each job earlier x later (reached_accepted job es e ∙ q)
 
   -- it ends with an end
-  pub listed-ends : byte_at job (length job - 1) ≡ 0
-  listed-ends = let s : length job - 1 ≡ 0 + widths_of es = omega (arith, filled.widths) in ap (λ (k : ℕ). byte_at job k) s ∙ filled.last
+  pub listed_ends : byte_at job (length job - 1) ≡ 0
+  listed_ends = let s : length job - 1 ≡ 0 + widths_of es = omega (arith, filled.widths) in ap (λ (k : ℕ). byte_at job k) s ∙ filled.last
 
   -- their widths and the end's one byte add up to the length
-  pub listed-widths : widths_of es + 1 ≡ length job
-  listed-widths = omega (arith, filled.widths)
+  pub listed_widths : widths_of es + 1 ≡ length job
+  listed_widths = omega (arith, filled.widths)
 
 -- ---- the laws of the placed commands
 
 module _ (job : List ℕ) (ps : List Placed) (e : placed job ≡ accepted ps) where
   -- it begins with settings
-  pub accepted-begins : BeginsWithSettings ps
+  pub accepted_begins : BeginsWithSettings ps
   unfolding listed
-  accepted-begins = let (es, l, q) = listed_of job ps e in subst BeginsWithSettings q (begins 4096 job es l)
+  accepted_begins = let (es, l, q) = listed_of job ps e in subst BeginsWithSettings q (begins 4096 job es l)
 
   -- each placed command is no end, in its place and in range, and has what it asks for; what holds at it is what those before it leave
-  pub accepted-each : (earlier : List Placed) (p : Placed) (later : List Placed) → ps ≡ earlier ++ p ∷ later → (p.context ≡ context_after nothing earlier) × Standing p
-  accepted-each earlier p later r =
+  pub accepted_each : (earlier : List Placed) (p : Placed) (later : List Placed) → ps ≡ earlier ++ p ∷ later → (p.context ≡ context_after nothing earlier) × Standing p
+  accepted_each earlier p later r =
       let (es, l, q) = listed_of job ps e in
-      reached-placed job earlier p later (ap placed_all (reached-accepted job es l) ∙ q ∙ r)
+      reached_placed job earlier p later (ap placed_all (reached_accepted job es l) ∙ q ∙ r)
 
   -- there are at most 4,096 of them
-  pub accepted-count : length ps ≤ 4096
-  accepted-count = let (es, l, q) = listed_of job ps e in omega (arith, (filled job es l).few, ap length q)
+  pub accepted_count : length ps ≤ 4096
+  accepted_count = let (es, l, q) = listed_of job ps e in omega (arith, (filled job es l).few, ap length q)

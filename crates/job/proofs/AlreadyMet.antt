@@ -16,9 +16,9 @@ use Rattle.context.specs.Context.{Context, nothing}
 use Rattle.job.specs.Faults.{tests_at, after_command}
 use Rattle.job.specs.Placed.{Placed, Entry, entry_at, placed_all, placed_in, Listing, refused, accepted, before, listed_by, listed, rows_at, all_rows}
 use Rattle.job.specs.Earlier.{end_of, ending_by}
-use Rattle.job.proofs.Faultless.{end-of}
+use Rattle.job.proofs.Faultless.{end_of_lem}
 use Rattle.job.proofs.PlacedCases.{fault_at, weight_at, context_behind, rest_after, by_cases}
-use Rattle.job.proofs.Front.{byte-in-front, width-in-front, given-in-front, not_held}
+use Rattle.job.proofs.Front.{byte_in_front, width_in_front, given_in_front, not_held}
 
 module _ (limit : ℕ) where
   met : (p : Entry) (ps : List Entry) → end_of p ≤ limit → ending_by limit (p ∷ ps) ≡ p ∷ ending_by limit ps
@@ -33,9 +33,9 @@ module _ (limit : ℕ) where
   Beyond (refused number offset) = Unit {0}
   Beyond (accepted ps) = ending_by limit ps ≡ []
 
-  beyond-more : (p : Entry) (j : Listing) → limit < end_of p → Beyond j → Beyond (before p j)
-  beyond-more p (refused number offset) l b = tt
-  beyond-more p (accepted ps) l b = unmet p ps l ∙ b
+  beyond_more : (p : Entry) (j : Listing) → limit < end_of p → Beyond j → Beyond (before p j)
+  beyond_more p (refused number offset) l b = tt
+  beyond_more p (accepted ps) l b = unmet p ps l ∙ b
 
   beyond : (n : ℕ) (job : List ℕ) (at count : ℕ) (h : Context) → limit < after_command job at → Beyond (listed_by tests_at n job at count h)
   unfolding listed_by
@@ -43,7 +43,7 @@ module _ (limit : ℕ) where
   beyond (suc n) job at count h l =
       by_cases tests_at n job at count h Beyond (λ w. tt) (λ w k f. tt) (λ w f b m. tt) (λ w f b m. refl)
       (λ w f b.
-      beyond-more (entry_at job at h) (rest_after tests_at n job at count h) (omega (arith, end-of job at count h f))
+      beyond_more (entry_at job at h) (rest_after tests_at n job at count h) (omega (arith, end_of_lem job at count h f))
       (beyond n job (after_command job at) (count + weight_at job at) (context_behind job at h) (omega (arith, width_some job (after_command job at)))))
 
   -- ---- the commands that end by the limit are the first
@@ -67,7 +67,7 @@ module _ (limit : ℕ) where
       (λ w f b.
       let after = after_command job at in
       first_more (entry_at job at h) (rest_after tests_at n job at count h) (dec_le (end_of (entry_at job at h)) limit)
-      (λ l. beyond n job after (count + weight_at job at) (context_behind job at h) (omega (arith, end-of job at count h f, width_some job after)))
+      (λ l. beyond n job after (count + weight_at job at) (context_behind job at h) (omega (arith, end_of_lem job at count h f, width_some job after)))
       (first n job after (count + weight_at job at) (context_behind job at h)))
 
 -- ---- two jobs alike in front
@@ -78,54 +78,54 @@ module _ (front a b : List ℕ) where
   Alike (accepted ps) (refused number offset) = Unit {0}
   Alike (accepted ps) (accepted qs) = ending_by (length front) ps ≡ ending_by (length front) qs
 
-  one-refused : (j : Listing) (number offset : ℕ) → Alike j (refused number offset)
-  one-refused (refused m o) number offset = tt
-  one-refused (accepted ps) number offset = tt
+  one_refused : (j : Listing) (number offset : ℕ) → Alike j (refused number offset)
+  one_refused (refused m o) number offset = tt
+  one_refused (accepted ps) number offset = tt
 
-  both-beyond : (j k : Listing) → Beyond (length front) j → Beyond (length front) k → Alike j k
-  both-beyond (refused m o) k x y = tt
-  both-beyond (accepted ps) (refused m o) x y = tt
-  both-beyond (accepted ps) (accepted qs) x y = x ∙ sym y
+  both_beyond : (j k : Listing) → Beyond (length front) j → Beyond (length front) k → Alike j k
+  both_beyond (refused m o) k x y = tt
+  both_beyond (accepted ps) (refused m o) x y = tt
+  both_beyond (accepted ps) (accepted qs) x y = x ∙ sym y
 
-  alike-more : (p : Entry) (j k : Listing) → end_of p ≤ length front → Alike j k → Alike (before p j) (before p k)
-  alike-more p (refused m o) k l x = tt
-  alike-more p (accepted ps) (refused m o) l x = tt
-  alike-more p (accepted ps) (accepted qs) l x = met (length front) p ps l ∙ ap (λ (xs : List Entry). p ∷ xs) x ∙ sym (met (length front) p qs l)
+  alike_more : (p : Entry) (j k : Listing) → end_of p ≤ length front → Alike j k → Alike (before p j) (before p k)
+  alike_more p (refused m o) k l x = tt
+  alike_more p (accepted ps) (refused m o) l x = tt
+  alike_more p (accepted ps) (accepted qs) l x = met (length front) p ps l ∙ ap (λ (xs : List Entry). p ∷ xs) x ∙ sym (met (length front) p qs l)
 
   module _ (n at count : ℕ) (h : Context) where
     -- what follows the first job's command, and in the other job what follows from the same offset on
     abbrev rest : Listing
     rest = rest_after tests_at n (front ++ a) at count h
 
-    abbrev other-rest : Listing
-    other-rest = listed_by tests_at n (front ++ b) (after_command (front ++ a) at) (count + weight_at (front ++ a) at) (context_behind (front ++ a) at h)
+    abbrev other_rest : Listing
+    other_rest = listed_by tests_at n (front ++ b) (after_command (front ++ a) at) (count + weight_at (front ++ a) at) (context_behind (front ++ a) at h)
 
-  module _ (n at count : ℕ) (h : Context) (v : after_command front at ≤ length front) (ih : Alike (rest n at count h) (other-rest n at count h)) where
+  module _ (n at count : ℕ) (h : Context) (v : after_command front at ≤ length front) (ih : Alike (rest n at count h) (other_rest n at count h)) where
     same_byte : byte_at (front ++ b) at ≡ byte_at (front ++ a) at
-    same_byte = byte-in-front front at v b ∙ sym (byte-in-front front at v a)
+    same_byte = byte_in_front front at v b ∙ sym (byte_in_front front at v a)
 
     same_width : width_at (front ++ b) at ≡ width_at (front ++ a) at
-    same_width = width-in-front front at v b ∙ sym (width-in-front front at v a)
+    same_width = width_in_front front at v b ∙ sym (width_in_front front at v a)
 
     same_given : file_command_at (front ++ b) at ≡ file_command_at (front ++ a) at
-    same_given = given-in-front front at v b ∙ sym (given-in-front front at v a)
+    same_given = given_in_front front at v b ∙ sym (given_in_front front at v a)
 
     held : fault_at (front ++ a) at count h ≡ 0 → end_of (entry_at (front ++ a) at h) ≤ length front
-    held f = omega (arith, end-of (front ++ a) at count h f, width-in-front front at v a)
+    held f = omega (arith, end_of_lem (front ++ a) at count h f, width_in_front front at v a)
 
     -- both go on with the same command
     both : fault_at (front ++ a) at count h ≡ 0 → Alike (before (entry_at (front ++ a) at h) (rest_after tests_at n (front ++ a) at count h)) (before (entry_at (front ++ b) at h) (rest_after tests_at n (front ++ b) at count h))
-    both f = rw (same_width, same_given) (alike-more (entry_at (front ++ a) at h) (rest n at count h) (other-rest n at count h) (held f) ih)
+    both f = rw (same_width, same_given) (alike_more (entry_at (front ++ a) at h) (rest n at count h) (other_rest n at count h) (held f) ih)
 
-    ends-only : (byte_at (front ++ a) at ≡ 0) → Alike (accepted []) (listed_by tests_at (suc n) (front ++ b) at count h)
-    ends-only z =
+    ends_only : (byte_at (front ++ a) at ≡ 0) → Alike (accepted []) (listed_by tests_at (suc n) (front ++ b) at count h)
+    ends_only z =
         by_cases tests_at n (front ++ b) at count h (Alike (accepted [])) (λ w. tt) (λ w k g. tt) (λ w g y m. tt) (λ w g y m. refl) (λ w g y. absurd (y (same_byte ∙ z)))
 
     goes_on : fault_at (front ++ a) at count h ≡ 0 → (byte_at (front ++ a) at ≡ 0 → ⊥) →
         Alike (before (entry_at (front ++ a) at h) (rest_after tests_at n (front ++ a) at count h)) (listed_by tests_at (suc n) (front ++ b) at count h)
     goes_on f z =
         let here = before (entry_at (front ++ a) at h) (rest_after tests_at n (front ++ a) at count h) in
-        by_cases tests_at n (front ++ b) at count h (Alike here) (λ w. one-refused here _ _) (λ w k g. one-refused here _ _) (λ w g y m. one-refused here _ _)
+        by_cases tests_at n (front ++ b) at count h (Alike here) (λ w. one_refused here _ _) (λ w k g. one_refused here _ _) (λ w g y m. one_refused here _ _)
         (λ w g y m. absurd (z (sym same_byte ∙ y))) (λ w g y. both f)
 
   alike : (n at count : ℕ) (h : Context) → Alike (listed_by tests_at n (front ++ a) at count h) (listed_by tests_at n (front ++ b) at count h)
@@ -136,13 +136,13 @@ module _ (front a b : List ℕ) where
       T : Type 0
       T = Alike (listed_by tests_at (suc n) (front ++ a) at count h) (listed_by tests_at (suc n) (front ++ b) at count h)
 
-      by : Dec (after_command front at ≤ length front) → Alike (rest n at count h) (other-rest n at count h) → T
+      by : Dec (after_command front at ≤ length front) → Alike (rest n at count h) (other_rest n at count h) → T
       by (no l) ih =
-          both-beyond (listed_by tests_at (suc n) (front ++ a) at count h) (listed_by tests_at (suc n) (front ++ b) at count h)
+          both_beyond (listed_by tests_at (suc n) (front ++ a) at count h) (listed_by tests_at (suc n) (front ++ b) at count h)
           (beyond (length front) (suc n) (front ++ a) at count h (not_held front a at (omega arith))) (beyond (length front) (suc n) (front ++ b) at count h (not_held front b at (omega arith)))
       by (yes v) ih =
           by_cases tests_at n (front ++ a) at count h (λ j. Alike j (listed_by tests_at (suc n) (front ++ b) at count h)) (λ w. tt) (λ w k f. tt) (λ w f z m. tt)
-          (λ w f z m. ends-only n at count h v ih z) (λ w f z. goes_on n at count h v ih f z)
+          (λ w f z m. ends_only n at count h v ih z) (λ w f z. goes_on n at count h v ih f z)
 
 -- ---- the theorems
 
@@ -169,5 +169,5 @@ module _ (front a b : List ℕ) (es fs : List Entry) (e : listed (front ++ a) �
   same_met = subst (Alike front a b (accepted es)) g (subst (λ (j : Listing). Alike front a b j (listed (front ++ b))) e (alike front a b 4097 0 0 nothing))
 
   -- and so are their rows
-  pub same-met-rows : all_rows (placed_all (ending_by (length front) es)) ≡ all_rows (placed_all (ending_by (length front) fs))
-  same-met-rows = ap (λ (xs : List Entry). all_rows (placed_all xs)) same_met
+  pub same_met_rows : all_rows (placed_all (ending_by (length front) es)) ≡ all_rows (placed_all (ending_by (length front) fs))
+  same_met_rows = ap (λ (xs : List Entry). all_rows (placed_all xs)) same_met

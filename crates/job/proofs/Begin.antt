@@ -35,9 +35,9 @@ no_sums = record { size = λ r. absurd (differ r); entries = λ i. lit≤ tt }
     differ e = let z : ◌≡◌ {A = ℕ} 0 1 = cc in omega arith
 
 module _ (room : Bool) (sums : List ℕ) (s : SoundSums room sums) where
-  pub begin-shows : Shows room start_state (no_joints sums) nothing
+  pub begin_shows : Shows room start_state (no_joints sums) nothing
   unfolding start_state
-  begin-shows =
+  begin_shows =
       record {
         size = length-replicate {A = ℕ} 256 0;
         sums = s.size;
@@ -53,19 +53,19 @@ module _ (room : Bool) (sums : List ℕ) (s : SoundSums room sums) where
       unset : (id : ℕ) → joint_given (replicate 256 0) id ≡ false
       unset id = rw (zeros 256 id)
 
-  pub begin-asks : (job : List ℕ) → WalkAsks job first_place (no_joints sums) room
+  pub begin_asks : (job : List ℕ) → WalkAsks job first_place (no_joints sums) room
   unfolding first_place
-  begin-asks job =
+  begin_asks job =
       record { state = start_sound; given = length-replicate {A = ℕ} 256 0; sums = s; offset = omega arith; count = omega arith; rows = omega arith }
 
-  pub begin-going : (job : List ℕ) (memory : List ℤ) → Bytes job → room_for (length memory) ≡ room → Going room 4097 job first_place (no_joints sums) memory nothing
+  pub begin_going : (job : List ℕ) (memory : List ℤ) → Bytes job → room_for (length memory) ≡ room → Going room 4097 job first_place (no_joints sums) memory nothing
   unfolding first_place
-  begin-going job memory b r = record { bytes = b; shows = begin-shows; room_is = r; left = omega arith; count = omega arith; offset = omega arith }
+  begin_going job memory b r = record { bytes = b; shows = begin_shows; room_is = r; left = omega arith; count = omega arith; offset = omega arith }
 
-  pub begin-matches : (job : List ℕ) (memory : List ℤ) → Bytes job → room_for (length memory) ≡ room → Matches job (listed job) (walk_from room 4097 job first_place (no_joints sums) memory) 0 memory
+  pub begin_matches : (job : List ℕ) (memory : List ℤ) → Bytes job → room_for (length memory) ≡ room → Matches job (listed job) (walk_from room 4097 job first_place (no_joints sums) memory) 0 memory
   unfolding first_place listed
-  begin-matches job memory b r =
-      simulates room 4097 job first_place (no_joints sums) memory nothing (begin-going job memory b r)
+  begin_matches job memory b r =
+      simulates room 4097 job first_place (no_joints sums) memory nothing (begin_going job memory b r)
 
 size_of_lem : (job : List ℕ) (j : Listing) (f : Final) (memory : List ℤ) → Matches job j f 0 memory → walked_answer f.answer ≡ size_from (placed_of j)
 size_of_lem job (refused number offset) f memory m = ap walked_answer m
@@ -78,8 +78,8 @@ fault_of_lem job (accepted es) f memory m = ap (walked_fault job) m.0
 module _ (room : Bool) (sums : List ℕ) (s : SoundSums room sums) (job : List ℕ) (memory : List ℤ) (b : Bytes job) (r : room_for (length memory) ≡ room) where
   pub size_is : walked_answer (walk_from room 4097 job first_place (no_joints sums) memory).answer ≡ size_of job
   unfolding size_of placed
-  size_is = size_of_lem job (listed job) (walk_from room 4097 job first_place (no_joints sums) memory) memory (begin-matches room sums s job memory b r)
+  size_is = size_of_lem job (listed job) (walk_from room 4097 job first_place (no_joints sums) memory) memory (begin_matches room sums s job memory b r)
 
-  pub fault-is : walked_fault job (walk_from room 4097 job first_place (no_joints sums) memory).answer ≡ fault_of job
+  pub fault_is : walked_fault job (walk_from room 4097 job first_place (no_joints sums) memory).answer ≡ fault_of job
   unfolding fault_of placed
-  fault-is = fault_of_lem job (listed job) (walk_from room 4097 job first_place (no_joints sums) memory) memory (begin-matches room sums s job memory b r)
+  fault_is = fault_of_lem job (listed job) (walk_from room 4097 job first_place (no_joints sums) memory) memory (begin_matches room sums s job memory b r)

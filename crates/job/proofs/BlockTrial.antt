@@ -10,7 +10,7 @@ use Rattle.layout.specs.Layouts.{known, known_in, forms_of, forms_in, width_of_a
 use Rattle.layout.specs.Operands.{operand, offset_of, read_operands}
 use Rattle.format.specs.Commands.{command_of, in_range, all_in_range, related, first_outside, relation_names, operand_at_fault}
 use Rattle.format.specs.Reading.{command_at}
-use Rattle.blocks.specs.Sets.{count_in_range, storey_at, storeys_at, set_at_fault, all_in_range as setsInRange}
+use Rattle.blocks.specs.Sets.{count_in_range, storey_at, storeys_at, set_at_fault, all_in_range as sets_in_range}
 use Rattle.blocks.specs.FileCommands.{file_command_at, width_at, file_operand_at_fault}
 use Rattle.context.specs.Context.{nothing, next, absent}
 use Rattle.job.specs.declared.FaultAnswer.{FaultAnswer}
@@ -63,7 +63,7 @@ pub record BlockTrial : Type 0 where
 pub block_trial : BlockTrial
 unfolding
     fault_of placed listed listed_by reached reached_from tests_at command_tests block_tests too_many misplaced passes_limit known known_in forms_of forms_in operands_width width_of_all width command_at command_of read_operands number number_after
-    in_range all_in_range form_in_range related within within_signed signed32 bits32 next absent count_in_range storey_at storeys_at setsInRange set_at_fault operand offset_of file_command_at width_at file_operand_at_fault first_outside relation_names operand_at_fault
+    in_range all_in_range form_in_range related within within_signed signed32 bits32 next absent count_in_range storey_at storeys_at sets_in_range set_at_fault operand offset_of file_command_at width_at file_operand_at_fault first_outside relation_names operand_at_fault
 block_trial =
     record {
       no_count = refl;
@@ -89,5 +89,5 @@ pub record BlockLimit : Type 0 where
 pub block_limit : BlockLimit
 unfolding
     tests_at block_tests misplaced passes_limit known known_in forms_of forms_in operands_width width_of_all width command_at command_of read_operands number number_after in_range all_in_range form_in_range related within within_signed signed32 bits32
-    next count_in_range storey_at storeys_at setsInRange operand offset_of width_at
+    next count_in_range storey_at storeys_at sets_in_range operand offset_of width_at
 block_limit = record { fills = refl; passes = refl; passes_cut = refl; passes_first = refl }

@@ -7,7 +7,7 @@ use Rattle.blocks.specs.FileCommands.{FileCommand, block, commands_from, storeys
 use Rattle.context.specs.Context.{Context, nothing, next}
 use Rattle.job.specs.Placed.{Placed, Entry, context_after, place_each, placed_in, placed_all}
 use Rattle.job.specs.Reached.{BlocksKeep}
-use Rattle.job.proofs.Reached.{context_both, reached-each}
+use Rattle.job.proofs.Reached.{context_both, reached_each}
 use Rattle.job.proofs.AlreadyMet.{placed_both}
 
 storeys_keep : (h : Context) (at : ℕ) (ss : List Storey) → context_after h (place_each h (storeys_from at ss)) ≡ h
@@ -21,8 +21,8 @@ block_keeps x ss b =
 
 pub blocks_keep : (job : List ℕ) → BlocksKeep job
 blocks_keep job before x y after q ss b =
-    let f = reached-each job before x (y ∷ after) q in
-    let g = reached-each job (before ++ x ∷ []) y after (q ∙ sym (append_assoc before (x ∷ []) (y ∷ after))) in
+    let f = reached_each job before x (y ∷ after) q in
+    let g = reached_each job (before ++ x ∷ []) y after (q ∙ sym (append_assoc before (x ∷ []) (y ∷ after))) in
     g.context
     ∙ ap (context_after nothing) (placed_both before (x ∷ []) ∙ ap (λ (ps : List Placed). placed_all before ++ ps) (append-nil (placed_in x)))
     ∙ context_both nothing (placed_all before) (placed_in x)

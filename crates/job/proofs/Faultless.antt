@@ -16,10 +16,10 @@ use Rattle.layout.proofs.KnownBytes.{known_is}
 use Rattle.walls.specs.declared.Storey.{Storey}
 use Rattle.format.specs.Commands.{byte_of, in_range}
 use Rattle.format.specs.Reading.{command_at}
-use Rattle.format.proofs.CommandRead.{byte-read}
+use Rattle.format.proofs.CommandRead.{byte_read}
 use Rattle.blocks.specs.Sets.{is_block, count_at, count_in_range, sets_of, all_in_range}
 use Rattle.blocks.specs.FileCommands.{FileCommand, width_of, width_at, commands_from, storeys_from, file_command_at}
-use Rattle.blocks.proofs.Sets.{count_range, storeys_length, each-in-range}
+use Rattle.blocks.proofs.Sets.{count_range, storeys_length, each_in_range}
 use Rattle.blocks.proofs.FileCommands.{at_one, at_block, KnownAt, width_read, storeys_many}
 use Rattle.context.specs.Context.{Context, next, given, missing, absent}
 use Rattle.context.proofs.Shown.{differ}
@@ -58,15 +58,15 @@ pub record Faultless (job : List ℕ) (offset count : ℕ) (h : Context) : Type 
   pub present : absent h (command_at job offset) ≡ false
 
 module _ (job : List ℕ) (offset count : ℕ) (h : Context) (b : is_block (byte_at job offset) ≡ false) where
-  pub command-fault : fault_at job offset count h ≡ first_of (command_tests job offset count h)
+  pub command_fault_lem : fault_at job offset count h ≡ first_of (command_tests job offset count h)
   unfolding tests_at
-  command-fault = rw b
+  command_fault_lem = rw b
 
   pub faultless : fault_at job offset count h ≡ 0 → Faultless job offset count h
   unfolding command_tests
   faultless z =
       by (known (byte_at job offset) || is_block (byte_at job offset)) (ltb (length job) (after_command job offset)) (too_many (byte_at job offset) count) (misplaced (byte_at job offset) (given h.settings))
-      (in_range (command_at job offset)) (absent h (command_at job offset)) refl refl refl refl refl refl (sym command-fault ∙ z)
+      (in_range (command_at job offset)) (absent h (command_at job offset)) refl refl refl refl refl refl (sym command_fault_lem ∙ z)
     where
       by : (k c m g r a : Bool) → (known (byte_at job offset) || is_block (byte_at job offset)) ≡ k → ltb (length job) (after_command job offset) ≡ c → too_many (byte_at job offset) count ≡ m →
           misplaced (byte_at job offset) (given h.settings) ≡ g → in_range (command_at job offset) ≡ r → absent h (command_at job offset) ≡ a →
@@ -99,15 +99,15 @@ pub record BlockFaultless (job : List ℕ) (offset count : ℕ) (h : Context) : 
   pub range : all_in_range (sets_of job offset) ≡ true
 
 module _ (job : List ℕ) (offset count : ℕ) (h : Context) (b : is_block (byte_at job offset) ≡ true) where
-  pub block-fault : fault_at job offset count h ≡ first_of (block_tests job offset count h)
+  pub block_fault_lem : fault_at job offset count h ≡ first_of (block_tests job offset count h)
   unfolding tests_at
-  block-fault = rw b
+  block_fault_lem = rw b
 
-  pub block-faultless : fault_at job offset count h ≡ 0 → BlockFaultless job offset count h
+  pub block_faultless : fault_at job offset count h ≡ 0 → BlockFaultless job offset count h
   unfolding block_tests
-  block-faultless z =
+  block_faultless z =
       by (known (byte_at job offset) || is_block (byte_at job offset)) (leb (length job) (offset + 1)) (count_in_range (count_at job offset)) (ltb (length job) (after_command job offset)) (passes_limit (count_at job offset) count)
-      (misplaced (byte_at job offset) (given h.settings)) (missing h.wall) (all_in_range (sets_of job offset)) refl refl refl refl refl refl refl (sym block-fault ∙ z)
+      (misplaced (byte_at job offset) (given h.settings)) (missing h.wall) (all_in_range (sets_of job offset)) refl refl refl refl refl refl refl (sym block_fault_lem ∙ z)
     where
       by : (k n i c m g a r : Bool) → leb (length job) (offset + 1) ≡ n → count_in_range (count_at job offset) ≡ i → ltb (length job) (after_command job offset) ≡ c → passes_limit (count_at job offset) count ≡ m →
           misplaced (byte_at job offset) (given h.settings) ≡ g → missing h.wall ≡ a → all_in_range (sets_of job offset) ≡ r →
@@ -173,15 +173,15 @@ storeys_chained : (h : Context) → misplaced 7 (given h.settings) ≡ false →
 unfolding next absent
 storeys_chained h g w at [] r = tt
 storeys_chained h g w at (s ∷ ss) r =
-    let e = each-in-range s ss r in
+    let e = each_in_range s ss r in
     (refl, record { other = λ z. omega arith; settings = g; range = e.0; present = w }, storeys_chained h g w (at + 24) ss e.1)
 
 module _ (job : List ℕ) (offset count : ℕ) (h : Context) (z : fault_at job offset count h ≡ 0) where
-  one-passed : is_block (byte_at job offset) ≡ false → Passed job offset count h
-  one-passed b =
+  one_passed : is_block (byte_at job offset) ≡ false → Passed job offset count h
+  one_passed b =
       let f = faultless job offset count h b z in
       let e = at_one job offset b in
-      let byte : byte_of (command_at job offset) ≡ byte_at job offset = byte-read job offset f.known_byte in
+      let byte : byte_of (command_at job offset) ≡ byte_at job offset = byte_read job offset f.known_byte in
       let one : weight_at job offset ≡ 1 = ap (λ (c : FileCommand). length (commands_from offset c)) e in
       record {
         whole = f.whole;
@@ -195,10 +195,10 @@ module _ (job : List ℕ) (offset count : ℕ) (h : Context) (z : fault_at job o
         );
       }
 
-  block-passed : is_block (byte_at job offset) ≡ true → Passed job offset count h
+  block_passed : is_block (byte_at job offset) ≡ true → Passed job offset count h
   unfolding misplaced
-  block-passed b =
-      let f = block-faultless job offset count h b z in
+  block_passed b =
+      let f = block_faultless job offset count h b z in
       let e = at_block job offset b in
       let n = count_range (count_at job offset) f.count_in_range_lem in
       let many : weight_at job offset ≡ count_at job offset =
@@ -208,27 +208,27 @@ module _ (job : List ℕ) (offset count : ℕ) (h : Context) (z : fault_at job o
         width = width_read job offset (λ e. absurd (differ (sym b ∙ e)));
         some = omega (arith, many, n.0);
         few = λ o. omega (arith, many, limit_kept (count_at job offset) count f.few);
-        chained = λ o. rw e (storeys_chained h (no-settings (byte_at job offset) (given h.settings) b f.settings) f.base (offset + 2) (sets_of job offset) f.range);
+        chained = λ o. rw e (storeys_chained h (no_settings (byte_at job offset) (given h.settings) b f.settings) f.base (offset + 2) (sets_of job offset) f.range);
       }
     where
-      no-settings : (byte : ℕ) (g : Bool) → is_block byte ≡ true → misplaced byte g ≡ false → misplaced 7 g ≡ false
-      no-settings byte true k e = refl
-      no-settings byte false k e = absurd (settings-missing byte k e)
+      no_settings : (byte : ℕ) (g : Bool) → is_block byte ≡ true → misplaced byte g ≡ false → misplaced 7 g ≡ false
+      no_settings byte true k e = refl
+      no_settings byte false k e = absurd (settings_missing byte k e)
         where
-          settings-missing : (byte : ℕ) → is_block byte ≡ true → misplaced byte false ≡ false → ⊥
-          settings-missing byte k e = let q = eqb-true byte 11 k in differ (rw q at e)
+          settings_missing : (byte : ℕ) → is_block byte ≡ true → misplaced byte false ≡ false → ⊥
+          settings_missing byte k e = let q = eqb-true byte 11 k in differ (rw q at e)
 
   pub passed : Passed job offset count h
   passed = by (is_block (byte_at job offset)) refl
     where
       by : (k : Bool) → is_block (byte_at job offset) ≡ k → Passed job offset count h
-      by true e = block-passed e
-      by false e = one-passed e
+      by true e = block_passed e
+      by false e = one_passed e
 
   -- its byte is known
   pub known_at : KnownAt job offset
   known_at b = (faultless job offset count h b z).known_byte
 
   -- its end is where the next command begins
-  pub end-of : end_of (entry_at job offset h) ≡ after_command job offset
-  end-of = ap (λ (n : ℕ). offset + n) passed.width
+  pub end_of_lem : end_of (entry_at job offset h) ≡ after_command job offset
+  end_of_lem = ap (λ (n : ℕ). offset + n) passed.width

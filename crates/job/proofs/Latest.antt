@@ -12,7 +12,7 @@ use Rattle.format.specs.declared.Command.TheVariants.{Finish as finish, Settings
 use Rattle.context.specs.Context.{Context, nothing, next}
 use Rattle.job.specs.Placed.{Placed, context_after, accepted, placed}
 use Rattle.job.specs.Earlier.{or_else, latest, settings_in, joint_in, given_under, base_in, latest_settings, latest_joint, latest_base}
-use Rattle.job.proofs.AcceptedLaws.{accepted-each}
+use Rattle.job.proofs.AcceptedLaws.{accepted_each}
 
 -- ---- one part of what holds, and what a command gives of it
 
@@ -26,13 +26,13 @@ or_assoc (some a) b c = refl
 
 -- a command replaces it or leaves it
 module _ {A : Type 0} (holds : Context → Option A) (gives : Command → Option A) (step : (h : Context) (c : Command) → holds (next h c) ≡ or_else (gives c) (holds h)) where
-  after-commands : (h : Context) (ps : List Placed) → holds (context_after h ps) ≡ or_else (latest gives ps) (holds h)
-  after-commands h [] = refl
-  after-commands h (p ∷ ps) =
-      after-commands (next h p.command) ps ∙ ap (or_else (latest gives ps)) (step h p.command) ∙ or_assoc (latest gives ps) (gives p.command) (holds h)
+  after_commands : (h : Context) (ps : List Placed) → holds (context_after h ps) ≡ or_else (latest gives ps) (holds h)
+  after_commands h [] = refl
+  after_commands h (p ∷ ps) =
+      after_commands (next h p.command) ps ∙ ap (or_else (latest gives ps)) (step h p.command) ∙ or_assoc (latest gives ps) (gives p.command) (holds h)
 
   from_nothing : (ps : List Placed) → holds nothing ≡ none → holds (context_after nothing ps) ≡ latest gives ps
-  from_nothing ps e = after-commands nothing ps ∙ ap (or_else (latest gives ps)) e ∙ or_none (latest gives ps)
+  from_nothing ps e = after_commands nothing ps ∙ ap (or_else (latest gives ps)) e ∙ or_none (latest gives ps)
 
 -- ---- settings, joints and wall base
 
@@ -62,17 +62,17 @@ given_by h (detail d) = record { settings = refl; joint = λ id. refl; base = re
 
 -- what these commands leave from the start on
 module _ (ps : List Placed) where
-  pub settings-left : (context_after nothing ps).settings ≡ latest_settings ps
-  settings-left = from_nothing (λ h. h.settings) settings_in (λ h c. (given_by h c).settings) ps refl
+  pub settings_left : (context_after nothing ps).settings ≡ latest_settings ps
+  settings_left = from_nothing (λ h. h.settings) settings_in (λ h c. (given_by h c).settings) ps refl
 
-  joint-left : (id : ℕ) → (context_after nothing ps).joints id ≡ latest_joint id ps
-  joint-left id = from_nothing (λ h. h.joints id) (λ c. given_under id (joint_in c)) (λ h c. (given_by h c).joint id) ps refl
+  joint_left : (id : ℕ) → (context_after nothing ps).joints id ≡ latest_joint id ps
+  joint_left id = from_nothing (λ h. h.joints id) (λ c. given_under id (joint_in c)) (λ h c. (given_by h c).joint id) ps refl
 
-  pub base-left : (context_after nothing ps).wall ≡ latest_base ps
-  base-left = from_nothing (λ h. h.wall) base_in (λ h c. (given_by h c).base) ps refl
+  pub base_left : (context_after nothing ps).wall ≡ latest_base ps
+  base_left = from_nothing (λ h. h.wall) base_in (λ h c. (given_by h c).base) ps refl
 
 -- ---- at a command of an accepted job
 
 pub latest_joint_lem : (job : List ℕ) (ps : List Placed) → placed job ≡ accepted ps → (earlier : List Placed) (p : Placed) (later : List Placed) → ps ≡ earlier ++ p ∷ later →
     (id : ℕ) → p.context.joints id ≡ latest_joint id earlier
-latest_joint_lem job ps e earlier p later q id = ap (λ (h : Context). h.joints id) (accepted-each job ps e earlier p later q).0 ∙ joint-left earlier id
+latest_joint_lem job ps e earlier p later q id = ap (λ (h : Context). h.joints id) (accepted_each job ps e earlier p later q).0 ∙ joint_left earlier id

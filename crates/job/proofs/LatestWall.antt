@@ -4,7 +4,7 @@ use mathlib.Core.Path.{◌≡◌, refl, sym, ap, ◌∙◌}
 use mathlib.Core.Bool.{Bool, true, false}
 use mathlib.Core.List.{List, [], ◌∷◌, ◌++◌}
 use mathlib.Core.Option.{Option, none, some, some-injective, none-ne-some}
-use Prim.Native.Nat.{ℕ, ◌+◌}
+use Prim.Native.Nat.{ℕ}
 use lib.IntN.{ℤ, pos}
 use lib.ListN.{length, replicate}
 use Rattle.walls.specs.declared.Wall.{Wall}
@@ -26,11 +26,11 @@ use Rattle.job.specs.Walking.{state_through, joints_through, no_joints}
 use Rattle.job.specs.Reached.{reached, located}
 use Rattle.job.specs.LatestWall.{wall_after, carried_row, Carries, AtEveryPlace, AtEveryStorey}
 use Rattle.job.proofs.Begin.{zero_sums}
-use Rattle.job.proofs.Reached.{reached-each, reached-placed}
+use Rattle.job.proofs.Reached.{reached_each, reached_placed}
 use Rattle.job.proofs.AlreadyMet.{placed_both}
 use Rattle.job.proofs.Located.{located_both, state_both, within, before_kept}
-use Rattle.job.proofs.WalkThrough.{ends_there, state-there, stands_after, pauses-there, shows-after}
-use Rattle.job.proofs.Latest.{settings-left, base-left}
+use Rattle.job.proofs.WalkThrough.{ends_there, state_there, stands_after, pauses_there, shows_after}
+use Rattle.job.proofs.Latest.{settings_left, base_left}
 
 -- ---- worked out once
 
@@ -85,11 +85,11 @@ module _ (job : List ℕ) (b : Bytes job) (earlier later : List Placed) (e : pla
 
   shows : Shows true there (joints_through true (no_joints (replicate 768 0)) (located earlier)) (context_after nothing earlier)
   unfolding there
-  shows = shows-after true (replicate 768 0) (zero_sums true) job b earlier later e
+  shows = shows_after true (replicate 768 0) (zero_sums true) job b earlier later e
 
   module _ (base : WallBase) (l : latest_base earlier ≡ some base) where
     holds : (context_after nothing earlier).wall ≡ some base
-    holds = base-left earlier ∙ l
+    holds = base_left earlier ∙ l
 
     walled : there.walled ≡ true
     walled = sym shows.walled ∙ ap given holds
@@ -101,15 +101,15 @@ module _ (job : List ℕ) (b : Bytes job) (earlier later : List Placed) (e : pla
         by false f s = absurd (differ (sym f))
         by true f (c, h, s) = s ∙ ap (wall_of there.settings.behaviour) (some-injective c base (sym h ∙ holds))
 
-    settings-are : latest_settings earlier ≡ some there.settings
-    settings-are = sym (settings-left earlier) ∙ shows.settings ∙ ap (λ (g : Bool). shown g there.settings) (shows.ordered walled)
+    settings_are : latest_settings earlier ≡ some there.settings
+    settings_are = sym (settings_left earlier) ∙ shows.settings ∙ ap (λ (g : Bool). shown g there.settings) (shows.ordered walled)
 
     carried : Carries earlier base
     unfolding wall_of there
     carried =
         record {
           settings = there.settings;
-          given = settings-are;
+          given = settings_are;
           coefficient = rw wall_is;
           shear = rw wall_is;
           resistance = rw wall_is;
@@ -126,7 +126,7 @@ room₈ = refl
 -- at every place behind a base
 pub at_every_place : (job : List ℕ) → Bytes job → AtEveryPlace job
 at_every_place job b before later e base l = (
-  ap (λ (t : State). t.wall) (state-there true (replicate 768 0) (zero_sums true) job b before later e memory₈ room₈),
+  ap (λ (t : State). t.wall) (state_there true (replicate 768 0) (zero_sums true) job b before later e memory₈ room₈),
   carried job b (placed_all before) (placed_all later) (ap placed_all e ∙ placed_both before later) base l,
 )
 
@@ -140,14 +140,14 @@ row_carried earlier p base s es ew c k = rw (c, es ∙ k.given, ew, k.coefficien
 pub at_every_storey : (job : List ℕ) → Bytes job → AtEveryStorey job
 unfolding absent
 at_every_storey job b earlier p later e s c =
-    let (context, t) = reached-placed job earlier p later e in
+    let (context, t) = reached_placed job earlier p later e in
     let (base, holds) = present p.context.wall (rw c at t.present) in
-    let l : latest_base earlier ≡ some base = sym (base-left earlier) ∙ ap (λ (h : Context). h.wall) (sym context) ∙ holds in
+    let l : latest_base earlier ≡ some base = sym (base_left earlier) ∙ ap (λ (h : Context). h.wall) (sym context) ∙ holds in
     let k = carried job b earlier (p ∷ later) e base l in
     let w = within (reached job) earlier p later e in
-    let at = reached-each job w.before w.entry w.after w.listed in
+    let at = reached_each job w.before w.entry w.after w.listed in
     let room = zero_sums true in
-    let state = state-there true (replicate 768 0) room job b w.before (w.entry ∷ w.after) w.listed memory₈ room₈ in
+    let state = state_there true (replicate 768 0) room job b w.before (w.entry ∷ w.after) w.listed memory₈ room₈ in
     record {
       base = base;
       latest = l;
@@ -158,7 +158,7 @@ at_every_storey job b earlier p later e s c =
       among = (w.rest, w.among);
       earlier_are = w.earlier_are;
       offset = ends_there true (replicate 768 0) room job b w.before (w.entry ∷ w.after) w.listed memory₈ room₈ ∙ sym at.place;
-      pauses = pauses-there true (replicate 768 0) room job b w.before (w.entry ∷ w.after) w.listed;
+      pauses = pauses_there true (replicate 768 0) room job b w.before (w.entry ∷ w.after) w.listed;
       stands = stands_after true (replicate 768 0) room job b w.before (w.entry ∷ w.after) w.listed;
       state = state ∙ sym (
           ap (λ (ps : List Placed). state_through true start_state (located ps)) w.earlier_are
@@ -167,5 +167,5 @@ at_every_storey job b earlier p later e s c =
           ∙ before_kept true (state_through true start_state (located (placed_all w.before))) w.entry.context w.entry.offset w.entry.given w.sets p w.rest w.among
           );
       carries = k;
-      row = row_carried earlier p base s (ap (λ (h : Context). h.settings) context ∙ settings-left earlier) holds c k;
+      row = row_carried earlier p base s (ap (λ (h : Context). h.settings) context ∙ settings_left earlier) holds c k;
     }

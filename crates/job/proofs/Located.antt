@@ -19,7 +19,7 @@ use Rattle.job.specs.Walking.{state_through, joints_through}
 use Rattle.job.specs.Reached.{located, reached_from}
 use Rattle.job.proofs.PlacedCases.{weight_at, context_behind}
 use Rattle.job.proofs.Faultless.{Chained}
-use Rattle.job.proofs.Reached.{none_first, reached_after, first-reached}
+use Rattle.job.proofs.Reached.{none_first, reached_after, first_reached}
 use Rattle.job.proofs.Through.{AllFit, ids_given}
 
 -- ---- two lists, one after the other
@@ -73,7 +73,7 @@ reached_fit (suc n) job b at count h = by (reached_fit n job b (after_command jo
     by : AllFit (located (placed_all (reached_after n job at count h))) → (es : List Entry) → reached_from (suc n) job at count h ≡ es → AllFit (located (placed_all es))
     by ih [] q = tt
     by ih (e ∷ es) q =
-        let (g, s) = first-reached n job at count h e es q in
+        let (g, s) = first_reached n job at count h e es q in
         subst (λ (xs : List Entry). AllFit (located (placed_all xs))) s
         (subst AllFit (sym (located_more (entry_at job at h) (reached_after n job at count h)))
         (fit_both (commands_in (entry_at job at h)) (located (placed_all (reached_after n job at count h))) (ids_given job at b) ih))

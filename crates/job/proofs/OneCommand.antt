@@ -14,10 +14,10 @@ use Rattle.layout.proofs.Numbers.{Bytes}
 use Rattle.format.specs.Reading.{command_at}
 use Rattle.blocks.specs.Sets.{is_block, count_at}
 use Rattle.blocks.specs.FileCommands.{width_at}
-use Rattle.blocks.proofs.FileCommands.{width_one, width-block}
+use Rattle.blocks.proofs.FileCommands.{width_one, width_block}
 use Rattle.context.specs.Context.{Context, given}
 use Rattle.context.specs.Running.{room_for, JointTable}
-use Rattle.context.proofs.Shown.{Shows, settings-given, absent-same, missing_flag}
+use Rattle.context.proofs.Shown.{Shows, settings_given_lem, absent_same, missing_flag}
 use Rattle.rows.specs.Writing.{stored_all}
 use Rattle.rows.proofs.Memory.{stored_all_keeps}
 use Rattle.rows.proofs.Laws.{stored_all_none}
@@ -27,8 +27,8 @@ use Rattle.job.specs.Placed.{Entry, entry_at, placed_in, all_rows}
 use Rattle.job.specs.Walking.{command_fault, block_fault, fault_from, commands_here, joints_through, rows_through, rows_here, next_place, walk_from}
 use Rattle.job.specs.Reached.{place_behind}
 use Rattle.job.proofs.PlacedCases.{fault_at, context_behind}
-use Rattle.job.proofs.Faultless.{or_false, or_true, command-fault, block-fault, Chained, Passed, passed, end-of}
-use Rattle.job.proofs.Steps.{walk-step-suc, onward, goes_on, one-fault, many-fault}
+use Rattle.job.proofs.Faultless.{or_false, or_true, command_fault_lem, block_fault_lem, Chained, Passed, passed, end_of_lem}
+use Rattle.job.proofs.Steps.{walk_step_suc, onward, goes_on, one_fault, many_fault}
 use Rattle.job.proofs.Through.{ids_read, ids_given, shows_through, rows_through_lem, rows_through_many, eights_through}
 
 -- ---- the fault off the state is the fault off the context
@@ -47,30 +47,30 @@ module _ (room : Bool) (job : List ℕ) (p : Place) (joints : JointTable) (h : C
   unfolding command_fault command_tests
   one_same k =
       let after : p.offset + width_at job p.offset ≡ p.offset + 1 + operands_width (byte_at job p.offset) = omega (arith, width_one job p.offset k) in
-      one-fault job p joints k
-      ∙ sym (command-fault job p.offset p.count h k
-      ∙ rw (k, or_false (known (byte_at job p.offset)), after, settings-given room p.state joints h s, ← absent-same room p.state joints h s (command_at job p.offset) (ids_read job p.offset b)))
+      one_fault job p joints k
+      ∙ sym (command_fault_lem job p.offset p.count h k
+      ∙ rw (k, or_false (known (byte_at job p.offset)), after, settings_given_lem room p.state joints h s, ← absent_same room p.state joints h s (command_at job p.offset) (ids_read job p.offset b)))
 
-  many-same : is_block (byte_at job p.offset) ≡ true → fault_from job p joints ≡ fault_at job p.offset p.count h
+  many_same : is_block (byte_at job p.offset) ≡ true → fault_from job p joints ≡ fault_at job p.offset p.count h
   unfolding block_fault block_tests
-  many-same k =
-      let after : p.offset + width_at job p.offset ≡ p.offset + 2 + 24 * count_at job p.offset = omega (arith, width-block job p.offset k) in
-      many-fault job p joints k
-      ∙ sym (block-fault job p.offset p.count h k
+  many_same k =
+      let after : p.offset + width_at job p.offset ≡ p.offset + 2 + 24 * count_at job p.offset = omega (arith, width_block job p.offset k) in
+      many_fault job p joints k
+      ∙ sym (block_fault_lem job p.offset p.count h k
       ∙ rw (
         block_misplaced (byte_at job p.offset) (given h.settings) k,
         k,
         or_true (known (byte_at job p.offset)),
         after,
-        settings-given room p.state joints h s,
+        settings_given_lem room p.state joints h s,
         missing_flag p.state.walled h.wall s.walled,
       ))
 
-  pub fault-same : fault_from job p joints ≡ fault_at job p.offset p.count h
-  fault-same = by (is_block (byte_at job p.offset)) refl
+  pub fault_same : fault_from job p joints ≡ fault_at job p.offset p.count h
+  fault_same = by (is_block (byte_at job p.offset)) refl
     where
       by : (k : Bool) → is_block (byte_at job p.offset) ≡ k → fault_from job p joints ≡ fault_at job p.offset p.count h
-      by true e = many-same e
+      by true e = many_same e
       by false e = one_same e
 
 -- ---- its rows
@@ -84,9 +84,9 @@ module _ (job : List ℕ) (p : Place) (joints : JointTable) (h : Context) (b : B
   abbrev own : List (List ℤ)
   own = all_rows (placed_in (entry_at job p.offset h))
 
-  with-room : Shows true p.state joints h → Alike (rows_here true job p joints) own p.rows memory
+  with_room : Shows true p.state joints h → Alike (rows_here true job p joints) own p.rows memory
   unfolding rows_here
-  with-room s =
+  with_room s =
       let same = rows_through_lem p.state joints h s (commands_here job p) (ids_given job p.offset b) c in
       record { many = ap length same; left = ap (stored_all memory p.rows) same }
 
@@ -99,7 +99,7 @@ module _ (job : List ℕ) (p : Place) (joints : JointTable) (h : Context) (b : B
       }
 
   rows_alike : (room : Bool) → room_for (length memory) ≡ room → Shows room p.state joints h → Alike (rows_here room job p joints) own p.rows memory
-  rows_alike true r s = with-room s
+  rows_alike true r s = with_room s
   rows_alike false r s = without (leb-false 8 (length memory) r) s
 
 -- ---- what holds on the way
@@ -135,32 +135,32 @@ module _ (room : Bool) (job : List ℕ) (p : Place) (joints : JointTable) (memor
   abbrev pub first : Entry
   first = entry_at job p.offset h
 
-  abbrev pub joints-then : JointTable
-  joints-then = joints_through room joints (commands_here job p)
+  abbrev pub joints_then : JointTable
+  joints_then = joints_through room joints (commands_here job p)
 
-  abbrev pub memory-then : List ℤ
-  memory-then = stored_all memory p.rows (all_rows (placed_in first))
+  abbrev pub memory_then : List ℤ
+  memory_then = stored_all memory p.rows (all_rows (placed_in first))
 
-  without-fault : Passed job p.offset p.count h
-  without-fault = passed job p.offset p.count h e
+  without_fault : Passed job p.offset p.count h
+  without_fault = passed job p.offset p.count h e
 
   alike : Alike (rows_here room job p joints) (all_rows (placed_in first)) p.rows memory
-  alike = rows_alike job p joints h g.bytes (without-fault.chained z) memory room g.room_is g.shows
+  alike = rows_alike job p joints h g.bytes (without_fault.chained z) memory room g.room_is g.shows
 
   behind : next_place room job p joints ≡ place_behind room p first
   unfolding next_place
-  behind = rw (← end-of job p.offset p.count h e, alike.many)
+  behind = rw (← end_of_lem job p.offset p.count h e, alike.many)
 
   -- the walk goes on behind it
-  pub stepped : p.offset < length job → (m : ℕ) → walk_from room (suc m) job p joints memory ≡ walk_from room m job (place_behind room p first) joints-then memory-then
+  pub stepped : p.offset < length job → (m : ℕ) → walk_from room (suc m) job p joints memory ≡ walk_from room m job (place_behind room p first) joints_then memory_then
   stepped l m =
-      walk-step-suc room job p joints memory m
-      ∙ goes_on job p joints memory (onward room m job p joints memory) l (fault-same room job p joints h g.bytes g.shows ∙ e) z
-      ∙ ap (λ (k : Place). walk_from room m job k joints-then (stored_all memory p.rows (rows_here room job p joints))) behind
-      ∙ ap (walk_from room m job (place_behind room p first) joints-then) alike.left
+      walk_step_suc room job p joints memory m
+      ∙ goes_on job p joints memory (onward room m job p joints memory) l (fault_same room job p joints h g.bytes g.shows ∙ e) z
+      ∙ ap (λ (k : Place). walk_from room m job k joints_then (stored_all memory p.rows (rows_here room job p joints))) behind
+      ∙ ap (walk_from room m job (place_behind room p first) joints_then) alike.left
 
-  pub further : Going room n job (place_behind room p first) joints-then memory-then (context_behind job p.offset h)
+  pub further : Going room n job (place_behind room p first) joints_then memory_then (context_behind job p.offset h)
   further =
-      subst (λ (m : List ℤ). Going room n job (place_behind room p first) joints-then m (context_behind job p.offset h)) alike.left
-      (subst (λ (k : Place). Going room n job k joints-then (stored_all memory p.rows (rows_here room job p joints)) (context_behind job p.offset h)) behind
-      (going_on room n job p joints memory h g without-fault z))
+      subst (λ (m : List ℤ). Going room n job (place_behind room p first) joints_then m (context_behind job p.offset h)) alike.left
+      (subst (λ (k : Place). Going room n job k joints_then (stored_all memory p.rows (rows_here room job p joints)) (context_behind job p.offset h)) behind
+      (going_on room n job p joints memory h g without_fault z))

@@ -33,27 +33,27 @@ abbrev pub rest_after : Tests → ℕ → List ℕ → ℕ → ℕ → Context �
 rest_after tests n job at count h = listed_by tests n job (after_command job at) (count + weight_at job at) (context_behind job at h)
 
 module _ (tests : Tests) (n : ℕ) (job : List ℕ) (at count : ℕ) (h : Context) where
-  pub placed-none : length job ≤ at → listed_by tests (suc n) job at count h ≡ refused 1 (length job)
+  pub placed_none : length job ≤ at → listed_by tests (suc n) job at count h ≡ refused 1 (length job)
   unfolding listed_by
-  placed-none l = rw (le-leb (length job) at l)
+  placed_none l = rw (le-leb (length job) at l)
 
   module _ (l : at < length job) where
-    pub placed-fault : (k : ℕ) → first_of (tests job at count h) ≡ suc k → listed_by tests (suc n) job at count h ≡ refused (suc k) at
+    pub placed_fault : (k : ℕ) → first_of (tests job at count h) ≡ suc k → listed_by tests (suc n) job at count h ≡ refused (suc k) at
     unfolding listed_by
-    placed-fault k e = rw (lt-leb (length job) at l, e, lt-ltb 0 (suc k) (omega arith))
+    placed_fault k e = rw (lt-leb (length job) at l, e, lt-ltb 0 (suc k) (omega arith))
 
     module _ (e : first_of (tests job at count h) ≡ 0) where
-      pub placed-more : byte_at job at ≡ 0 → at + 1 < length job → listed_by tests (suc n) job at count h ≡ refused 3 (at + 1)
+      pub placed_more : byte_at job at ≡ 0 → at + 1 < length job → listed_by tests (suc n) job at count h ≡ refused 3 (at + 1)
       unfolding listed_by
-      placed-more b m = rw (lt-leb (length job) at l, e, b, lt-ltb (at + 1) (length job) m)
+      placed_more b m = rw (lt-leb (length job) at l, e, b, lt-ltb (at + 1) (length job) m)
 
       pub placed_end : byte_at job at ≡ 0 → length job ≤ at + 1 → listed_by tests (suc n) job at count h ≡ accepted []
       unfolding listed_by
       placed_end b m = rw (lt-leb (length job) at l, e, b, le-ltb (at + 1) (length job) m)
 
-      pub placed-goes : (byte_at job at ≡ 0 → ⊥) → listed_by tests (suc n) job at count h ≡ before (entry_at job at h) (rest_after tests n job at count h)
+      pub placed_goes : (byte_at job at ≡ 0 → ⊥) → listed_by tests (suc n) job at count h ≡ before (entry_at job at h) (rest_after tests n job at count h)
       unfolding listed_by
-      placed-goes b = rw (lt-leb (length job) at l, e, ne_eqb (byte_at job at) 0 b)
+      placed_goes b = rw (lt-leb (length job) at l, e, ne_eqb (byte_at job at) 0 b)
 
   -- what holds in each case holds
   pub by_cases : (P : Listing → Type 0) →
@@ -65,21 +65,21 @@ module _ (tests : Tests) (n : ℕ) (job : List ℕ) (at count : ℕ) (h : Contex
       P (listed_by tests (suc n) job at count h)
   by_cases P p1 p2 p3 p4 p5 = reached (dec_le (length job) at)
     where
-      at-end : at < length job → first_of (tests job at count h) ≡ 0 → byte_at job at ≡ 0 → Dec (at + 1 < length job) → P (listed_by tests (suc n) job at count h)
-      at-end l e b (yes m) = subst P (sym (placed-more l e b m)) (p3 l e b m)
-      at-end l e b (no m) = let w : length job ≤ at + 1 = omega arith in subst P (sym (placed_end l e b w)) (p4 l e b w)
+      at_end : at < length job → first_of (tests job at count h) ≡ 0 → byte_at job at ≡ 0 → Dec (at + 1 < length job) → P (listed_by tests (suc n) job at count h)
+      at_end l e b (yes m) = subst P (sym (placed_more l e b m)) (p3 l e b m)
+      at_end l e b (no m) = let w : length job ≤ at + 1 = omega arith in subst P (sym (placed_end l e b w)) (p4 l e b w)
 
       no_fault : at < length job → first_of (tests job at count h) ≡ 0 → Dec (byte_at job at ≡ 0) → P (listed_by tests (suc n) job at count h)
-      no_fault l e (yes b) = at-end l e b (dec_le (suc (at + 1)) (length job))
-      no_fault l e (no b) = subst P (sym (placed-goes l e b)) (p5 l e b)
+      no_fault l e (yes b) = at_end l e b (dec_le (suc (at + 1)) (length job))
+      no_fault l e (no b) = subst P (sym (placed_goes l e b)) (p5 l e b)
 
-      in-job : at < length job → (k : ℕ) → first_of (tests job at count h) ≡ k → P (listed_by tests (suc n) job at count h)
-      in-job l zero e = no_fault l e (ℕ_discrete (byte_at job at) 0)
-      in-job l (suc k) e = subst P (sym (placed-fault l k e)) (p2 l k e)
+      in_job : at < length job → (k : ℕ) → first_of (tests job at count h) ≡ k → P (listed_by tests (suc n) job at count h)
+      in_job l zero e = no_fault l e (ℕ_discrete (byte_at job at) 0)
+      in_job l (suc k) e = subst P (sym (placed_fault l k e)) (p2 l k e)
 
       reached : Dec (length job ≤ at) → P (listed_by tests (suc n) job at count h)
-      reached (yes l) = subst P (sym (placed-none l)) (p1 l)
-      reached (no l) = in-job (omega arith) (first_of (tests job at count h)) refl
+      reached (yes l) = subst P (sym (placed_none l)) (p1 l)
+      reached (no l) = in_job (omega arith) (first_of (tests job at count h)) refl
 
 -- ---- the placed commands
 

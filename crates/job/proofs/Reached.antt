@@ -17,7 +17,7 @@ use Rattle.job.specs.Faults.{after_command, tests_at}
 use Rattle.job.specs.Placed.{Placed, context_after, Entry, entry_at, placed_in, placed_all, Listing, refused, accepted, before, listed_by, listed}
 use Rattle.job.specs.Earlier.{widths_of}
 use Rattle.job.specs.Reached.{stops_at, reached_from, reached}
-use Rattle.job.proofs.Faultless.{Standing, Chained, passed, end-of}
+use Rattle.job.proofs.Faultless.{Standing, Chained, passed, end_of_lem}
 use Rattle.job.proofs.PlacedCases.{fault_at, weight_at, context_behind, rest_after, by_cases}
 use Rattle.job.proofs.RefusedLaws.{fault_number}
 
@@ -45,11 +45,11 @@ module _ (n : ℕ) (job : List ℕ) (at count : ℕ) (h : Context) where
   unfolding reached_from
   goes e = rw e
 
-  pub stops-none : length job ≤ at → reached_from (suc n) job at count h ≡ []
-  stops-none l = stops (rw (le-leb (length job) at l))
+  pub stops_none : length job ≤ at → reached_from (suc n) job at count h ≡ []
+  stops_none l = stops (rw (le-leb (length job) at l))
 
-  pub stops-fault : at < length job → (k : ℕ) → fault_at job at count h ≡ suc k → reached_from (suc n) job at count h ≡ []
-  stops-fault l k e = stops (rw (lt-leb (length job) at l, e, lt-ltb 0 (suc k) (omega arith)))
+  pub stops_fault : at < length job → (k : ℕ) → fault_at job at count h ≡ suc k → reached_from (suc n) job at count h ≡ []
+  stops_fault l k e = stops (rw (lt-leb (length job) at l, e, lt-ltb 0 (suc k) (omega arith)))
 
   pub stops_end : at < length job → fault_at job at count h ≡ 0 → byte_at job at ≡ 0 → reached_from (suc n) job at count h ≡ []
   stops_end l e b = stops (rw (lt-leb (length job) at l, e, b))
@@ -58,9 +58,9 @@ module _ (n : ℕ) (job : List ℕ) (at count : ℕ) (h : Context) where
   goes_on l e b = goes (rw (lt-leb (length job) at l, e, ne_eqb (byte_at job at) 0 b))
 
   -- where a command is reached, the walk goes on behind it
-  pub first-reached : (p : Entry) (ps : List Entry) → reached_from (suc n) job at count h ≡ p ∷ ps →
+  pub first_reached : (p : Entry) (ps : List Entry) → reached_from (suc n) job at count h ≡ p ∷ ps →
       Goes job at count h × (entry_at job at h ∷ reached_after n job at count h ≡ p ∷ ps)
-  first-reached p ps e = by (leb (length job) at) (ltb 0 (fault_at job at count h)) (eqb (byte_at job at) 0) refl refl refl
+  first_reached p ps e = by (leb (length job) at) (ltb 0 (fault_at job at count h)) (eqb (byte_at job at) 0) refl refl refl
     where
       stopped : stops_at job at count h ≡ true → Goes job at count h × (entry_at job at h ∷ reached_after n job at count h ≡ p ∷ ps)
       stopped s = absurd (none_first (sym (stops s) ∙ e))
@@ -100,12 +100,12 @@ unfolding reached_from
 each_from zero job offset count h [] e later q = absurd (none_first q)
 each_from zero job offset count h (x ∷ earlier) e later q = absurd (none_first q)
 each_from (suc n) job offset count h [] e later q =
-    let (g, s) = first-reached n job offset count h e later q in
+    let (g, s) = first_reached n job offset count h e later q in
     let r : entry_at job offset h ≡ e = cc in
     subst (λ (k : ℕ). Stands job k h e) (sym (add-zero offset))
     (subst (Stands job offset h) r (record { place = refl; read = refl; context = refl; other = g.other; count = count; no_fault = g.no_fault }))
 each_from (suc n) job offset count h (x ∷ earlier) e later q =
-    let (g, s) = first-reached n job offset count h x (earlier ++ e ∷ later) q in
+    let (g, s) = first_reached n job offset count h x (earlier ++ e ∷ later) q in
     let t : reached_after n job offset count h ≡ earlier ++ e ∷ later = cc in
     let r : entry_at job offset h ≡ x = cc in
     let w : width_of (file_command_at job offset) ≡ width_of x.given = ap (λ (y : Entry). width_of y.given) r in
@@ -129,7 +129,7 @@ chained_from (suc n) job at count h = by (chained_from n job (after_command job 
     by : Chained (context_behind job at h) (placed_all (reached_after n job at count h)) → (es : List Entry) → reached_from (suc n) job at count h ≡ es → Chained h (placed_all es)
     by ih [] q = tt
     by ih (e ∷ es) q =
-        let (g, s) = first-reached n job at count h e es q in
+        let (g, s) = first_reached n job at count h e es q in
         subst (λ (xs : List Entry). Chained h (placed_all xs)) s
         (chained_both h (placed_in (entry_at job at h)) (placed_all (reached_after n job at count h)) ((passed job at count h g.no_fault).chained g.other) ih)
 
@@ -160,42 +160,42 @@ unfolding listed_by reached_from
 ends zero job at count h w = omega arith
 ends (suc n) job at count h w =
     by_cases tests_at n job at count h (Ends at (reached_from (suc n) job at count h))
-    (λ l. rw (stops-none n job at count h l) (omega arith))
-    (λ l k e. rw (stops-fault n job at count h l k e, ne_eqb (suc k) 3 (λ t. (fault_number job at count h).other (e ∙ t))) (omega arith))
+    (λ l. rw (stops_none n job at count h l) (omega arith))
+    (λ l k e. rw (stops_fault n job at count h l k e, ne_eqb (suc k) 3 (λ t. (fault_number job at count h).other (e ∙ t))) (omega arith))
     (λ l e b m. rw (stops_end n job at count h l e b) (omega arith))
     (λ l e b m. stops_end n job at count h l e b)
     (λ l e b.
     rw (goes_on n job at count h l e b)
     (ends_more at (after_command job at) (entry_at job at h) (reached_after n job at count h) (rest_after tests_at n job at count h)
-    (sym (end-of job at count h e)) (ends n job (after_command job at) (count + weight_at job at) (context_behind job at h) (passed job at count h e).whole)))
+    (sym (end_of_lem job at count h e)) (ends n job (after_command job at) (count + weight_at job at) (context_behind job at h) (passed job at count h e).whole)))
 
 -- ---- the laws
 
 module _ (job : List ℕ) where
-  all-ends : Ends 0 (reached job) (listed job)
+  all_ends : Ends 0 (reached job) (listed job)
   unfolding reached listed
-  all-ends = ends 4097 job 0 0 nothing (omega arith)
+  all_ends = ends 4097 job 0 0 nothing (omega arith)
 
   -- of an accepted job they are the commands of the file
-  pub reached-accepted : (es : List Entry) → listed job ≡ accepted es → reached job ≡ es
-  reached-accepted es e = subst (Ends 0 (reached job)) e all-ends
+  pub reached_accepted : (es : List Entry) → listed job ≡ accepted es → reached job ≡ es
+  reached_accepted es e = subst (Ends 0 (reached job)) e all_ends
 
   -- a refused job is refused where they end, and one byte further where bytes follow the end
-  pub reached-refused : (number offset : ℕ) → listed job ≡ refused number offset → offset ≡ widths_of (reached job) + cond (eqb number 3) 1 0
-  reached-refused number offset e = let t : Ends 0 (reached job) (refused number offset) = subst (Ends 0 (reached job)) e all-ends in omega (arith, t)
+  pub reached_refused : (number offset : ℕ) → listed job ≡ refused number offset → offset ≡ widths_of (reached job) + cond (eqb number 3) 1 0
+  reached_refused number offset e = let t : Ends 0 (reached job) (refused number offset) = subst (Ends 0 (reached job)) e all_ends in omega (arith, t)
 
   -- each stands in the job where those before it end, and is no end; what holds at it is what they leave
-  pub reached-each : (earlier : List Entry) (e : Entry) (later : List Entry) → reached job ≡ earlier ++ e ∷ later → Stands job (widths_of earlier) (context_after nothing (placed_all earlier)) e
+  pub reached_each : (earlier : List Entry) (e : Entry) (later : List Entry) → reached job ≡ earlier ++ e ∷ later → Stands job (widths_of earlier) (context_after nothing (placed_all earlier)) e
   unfolding reached
-  reached-each earlier e later q =
+  reached_each earlier e later q =
       let s : 0 + widths_of earlier ≡ widths_of earlier = omega arith in
       subst (λ (k : ℕ). Stands job k (context_after nothing (placed_all earlier)) e) s (each_from 4097 job 0 0 nothing earlier e later q)
 
   -- the placed commands stand, each with the context that those before it leave
-  pub chained-reached : Chained nothing (placed_all (reached job))
+  pub chained_reached : Chained nothing (placed_all (reached job))
   unfolding reached
-  chained-reached = chained_from 4097 job 0 0 nothing
+  chained_reached = chained_from 4097 job 0 0 nothing
 
   -- each placed command stands, and what holds at it is what those before it leave
-  pub reached-placed : (earlier : List Placed) (p : Placed) (later : List Placed) → placed_all (reached job) ≡ earlier ++ p ∷ later → (p.context ≡ context_after nothing earlier) × Standing p
-  reached-placed earlier p later q = chained_at nothing (placed_all (reached job)) chained-reached earlier p later q
+  pub reached_placed : (earlier : List Placed) (p : Placed) (later : List Placed) → placed_all (reached job) ≡ earlier ++ p ∷ later → (p.context ≡ context_after nothing earlier) × Standing p
+  reached_placed earlier p later q = chained_at nothing (placed_all (reached job)) chained_reached earlier p later q

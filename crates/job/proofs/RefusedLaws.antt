@@ -17,9 +17,9 @@ use Rattle.blocks.proofs.FileCommands.{width_one, width_some}
 use Rattle.context.specs.Context.{Context, nothing, given, absent}
 use Rattle.job.specs.Faults.{unknown, after_command, cut_short, too_many, misplaced, out_of_range, count_missing, count_out_of_range, passes_limit, without_base, set_out_of_range, command_tests, block_tests, tests_at}
 use Rattle.job.specs.Placed.{Entry, entry_at, Listing, refused, accepted, before, listed_by, listed, placed_of, placed}
-use Rattle.job.proofs.Faultless.{command-fault, block-fault, passed}
-use Rattle.job.proofs.Front.{byte-in-front, width-in-front, given-in-front, fault-in-front, not_held}
-use Rattle.job.proofs.PlacedCases.{fault_at, not_both, weight_at, context_behind, rest_after, placed-fault, placed-more, placed-goes, by_cases, listed_refused}
+use Rattle.job.proofs.Faultless.{command_fault_lem, block_fault_lem, passed}
+use Rattle.job.proofs.Front.{byte_in_front, width_in_front, given_in_front, fault_in_front, not_held}
+use Rattle.job.proofs.PlacedCases.{fault_at, not_both, weight_at, context_behind, rest_after, placed_fault, placed_more, placed_goes, by_cases, listed_refused}
 
 -- ---- where a refusal stands, and its number
 
@@ -42,12 +42,12 @@ fault_number job at count h = by (is_block (byte_at job at)) refl
 
     by : (k : Bool) → is_block (byte_at job at) ≡ k → FaultNumber (fault_at job at count h)
     by true b =
-        subst FaultNumber (sym (block-fault job at count h b))
+        subst FaultNumber (sym (block_fault_lem job at count h b))
         (pick (unknown job at) 2 tt tt tt (pick (count_missing job at) 1 tt tt tt (pick (count_out_of_range (count_at job at)) 5 tt tt tt (pick (cut_short job at) 1 tt tt tt
         (pick (passes_limit (count_at job at) count) 8 tt tt tt (pick (misplaced (byte_at job at) (given h.settings)) 4 tt tt tt
         (pick (without_base h) 6 tt tt tt (pick (set_out_of_range (sets_of job at)) 5 tt tt tt (is 0 tt tt tt)))))))))
     by false b =
-        subst FaultNumber (sym (command-fault job at count h b))
+        subst FaultNumber (sym (command_fault_lem job at count h b))
         (pick (unknown job at) 2 tt tt tt (pick (cut_short job at) 1 tt tt tt (pick (too_many (byte_at job at) count) 8 tt tt tt (pick (misplaced (byte_at job at) (given h.settings)) 4 tt tt tt
         (pick (out_of_range (command_at job at)) 5 tt tt tt (pick (absent h (command_at job at)) 6 tt tt tt (is 0 tt tt tt)))))))
 
@@ -86,16 +86,16 @@ module _ (job : List ℕ) (number offset : ℕ) (e : placed job ≡ refused numb
   stands = subst (Standing job 0) (listed_refused job number offset e) (standing 4097 job 0 0 nothing (omega arith))
 
   -- the refused offset is at most the file's length
-  pub refused-offset : offset ≤ length job
-  refused-offset = stands.inside
+  pub refused_offset : offset ≤ length job
+  refused_offset = stands.inside
 
   -- placing refuses with a number from 1 to 8
-  pub refused-number : (1 ≤ number) × (number ≤ 8)
-  refused-number = (stands.least, stands.most)
+  pub refused_number : (1 ≤ number) × (number ≤ 8)
+  refused_number = (stands.least, stands.most)
 
   -- and never with 7 (02, No. 1: "Refusal 7 no longer occurs")
-  pub never-seven : number ≡ 7 → ⊥
-  never-seven = stands.not_seven
+  pub never_seven : number ≡ 7 → ⊥
+  never_seven = stands.not_seven
 
 -- ---- a refusal stays
 
@@ -107,12 +107,12 @@ behind x (accepted es) e = absurd (not_both (sym e))
 -- where the refusal is of a command, the front holds this whole; where it is 3, its offset lies in the front
 module _ (front a b : List ℕ) (number offset : ℕ) (w : offset < length front) (whole : (number ≡ 3 → ⊥) → after_command front offset ≤ length front) where
   -- at a command that lies in the front, the same fault is found
-  fault-same : (at count : ℕ) (h : Context) → after_command front at ≤ length front → fault_at (front ++ b) at count h ≡ fault_at (front ++ a) at count h
-  fault-same at count h v = fault-in-front front at v b count h ∙ sym (fault-in-front front at v a count h)
+  fault_same : (at count : ℕ) (h : Context) → after_command front at ≤ length front → fault_at (front ++ b) at count h ≡ fault_at (front ++ a) at count h
+  fault_same at count h v = fault_in_front front at v b count h ∙ sym (fault_in_front front at v a count h)
 
   -- a command that ends within the front lies in it
-  held-before : (c : List ℕ) (at : ℕ) → after_command (front ++ c) at ≤ length front → after_command front at ≤ length front
-  held-before c at l = by (dec_le (after_command front at) (length front))
+  held_before : (c : List ℕ) (at : ℕ) → after_command (front ++ c) at ≤ length front → after_command front at ≤ length front
+  held_before c at l = by (dec_le (after_command front at) (length front))
     where
       by : Dec (after_command front at ≤ length front) → after_command front at ≤ length front
       by (yes v) = v
@@ -127,21 +127,21 @@ module _ (front a b : List ℕ) (number offset : ℕ) (w : offset < length front
 
   -- the cases of a step
   module _ (n at count : ℕ) (h : Context) (l : at < length (front ++ a)) where
-    kept-fault : (k : ℕ) → fault_at (front ++ a) at count h ≡ suc k → Kept (suc n) at count h (refused (suc k) at)
-    kept-fault k f e =
+    kept_fault : (k : ℕ) → fault_at (front ++ a) at count h ≡ suc k → Kept (suc n) at count h (refused (suc k) at)
+    kept_fault k f e =
         let q : offset ≡ at = cc in
         let r : number ≡ fault_at (front ++ a) at count h = cc in
         let v : after_command front at ≤ length front = rw q at (whole (λ t. (fault_number (front ++ a) at count h).other (sym r ∙ t))) in
-        placed-fault tests_at n (front ++ b) at count h (longer b (omega arith)) k (fault-same at count h v ∙ f) ∙ e
+        placed_fault tests_at n (front ++ b) at count h (longer b (omega arith)) k (fault_same at count h v ∙ f) ∙ e
 
     module _ (f : fault_at (front ++ a) at count h ≡ 0) where
-      kept-after : byte_at (front ++ a) at ≡ 0 → Kept (suc n) at count h (refused 3 (at + 1))
-      kept-after z e =
+      kept_after : byte_at (front ++ a) at ≡ 0 → Kept (suc n) at count h (refused 3 (at + 1))
+      kept_after z e =
           let q : offset ≡ at + 1 = cc in
           let u : at + 1 < length front = omega arith in
           let y : byte_at front at ≡ 0 = sym (get_or-append front a 0 at (omega arith)) ∙ z in
           let v : after_command front at ≤ length front = omega (arith, width_one front at (ap is_block y), ap operands_width y ∙ widths.finish) in
-          placed-more tests_at n (front ++ b) at count h (longer b (omega arith)) (fault-same at count h v ∙ f) (byte-in-front front at v b ∙ y) (longer b u) ∙ e
+          placed_more tests_at n (front ++ b) at count h (longer b (omega arith)) (fault_same at count h v ∙ f) (byte_in_front front at v b ∙ y) (longer b u) ∙ e
 
       kept_on : (byte_at (front ++ a) at ≡ 0 → ⊥) → Kept n (after_command (front ++ a) at) (count + weight_at (front ++ a) at) (context_behind (front ++ a) at h) (rest_after tests_at n (front ++ a) at count h) →
           Kept (suc n) at count h (before (entry_at (front ++ a) at h) (rest_after tests_at n (front ++ a) at count h))
@@ -150,10 +150,10 @@ module _ (front a b : List ℕ) (number offset : ℕ) (w : offset < length front
           let s : Stands (front ++ a) (after_command (front ++ a) at) number offset =
           subst (Standing (front ++ a) (after_command (front ++ a) at)) r
           (standing n (front ++ a) (after_command (front ++ a) at) (count + weight_at (front ++ a) at) (context_behind (front ++ a) at h) (passed (front ++ a) at count h f).whole) in
-          let v : after_command front at ≤ length front = held-before a at (omega (arith, s.from)) in
+          let v : after_command front at ≤ length front = held_before a at (omega (arith, s.from)) in
           let g : rest_after tests_at n (front ++ b) at count h ≡ refused number offset =
-          rw (width-in-front front at v b, given-in-front front at v b) (rw (width-in-front front at v a, given-in-front front at v a) at (ih r)) in
-          placed-goes tests_at n (front ++ b) at count h (longer b (omega (arith, width_some front at))) (fault-same at count h v ∙ f) (λ q. z (byte-in-front front at v a ∙ sym (byte-in-front front at v b) ∙ q)) ∙ ap (before (entry_at (front ++ b) at h)) g
+          rw (width_in_front front at v b, given_in_front front at v b) (rw (width_in_front front at v a, given_in_front front at v a) at (ih r)) in
+          placed_goes tests_at n (front ++ b) at count h (longer b (omega (arith, width_some front at))) (fault_same at count h v ∙ f) (λ q. z (byte_in_front front at v a ∙ sym (byte_in_front front at v b) ∙ q)) ∙ ap (before (entry_at (front ++ b) at h)) g
 
   kept : (n at count : ℕ) (h : Context) → Kept n at count h (listed_by tests_at n (front ++ a) at count h)
   unfolding listed_by
@@ -161,7 +161,7 @@ module _ (front a b : List ℕ) (number offset : ℕ) (w : offset < length front
   kept (suc n) at count h =
       by_cases tests_at n (front ++ a) at count h (Kept (suc n) at count h)
       (λ l e. let q : length (front ++ a) ≡ offset = cc in absurd (beyond q (length-append front a)))
-      (kept-fault n at count h) (λ l f z m. kept-after n at count h l f z) (λ l f z m e. absurd (not_both (sym e)))
+      (kept_fault n at count h) (λ l f z m. kept_after n at count h l f z) (λ l f z m e. absurd (not_both (sym e)))
       (λ l f z. kept_on n at count h l f z (kept n (after_command (front ++ a) at) (count + weight_at (front ++ a) at) (context_behind (front ++ a) at h)))
     where
       beyond : length (front ++ a) ≡ offset → length (front ++ a) ≡ length front + length a → ⊥
@@ -170,12 +170,12 @@ module _ (front a b : List ℕ) (number offset : ℕ) (w : offset < length front
 module _ (front a b : List ℕ) where
   -- A job with a refusal stays refused at the same place whatever bytes follow a faulty command that is not cut short: `front`
   -- is what is kept, and holds that command whole.
-  pub refused-stays : (number offset : ℕ) → placed (front ++ a) ≡ refused number offset → after_command front offset ≤ length front → placed (front ++ b) ≡ refused number offset
+  pub refused_stays : (number offset : ℕ) → placed (front ++ a) ≡ refused number offset → after_command front offset ≤ length front → placed (front ++ b) ≡ refused number offset
   unfolding placed listed
-  refused-stays number offset e w =
+  refused_stays number offset e w =
       ap placed_of (kept front a b number offset (omega (arith, width_some front offset)) (λ t. w) 4097 0 0 nothing (listed_refused (front ++ a) number offset e))
 
   -- and one with bytes after its end stays refused where the first of them is kept
-  pub after-end-stays : (offset : ℕ) → placed (front ++ a) ≡ refused 3 offset → offset < length front → placed (front ++ b) ≡ refused 3 offset
+  pub after_end_stays : (offset : ℕ) → placed (front ++ a) ≡ refused 3 offset → offset < length front → placed (front ++ b) ≡ refused 3 offset
   unfolding placed listed
-  after-end-stays offset e w = ap placed_of (kept front a b 3 offset w (λ t. absurd (t refl)) 4097 0 0 nothing (listed_refused (front ++ a) 3 offset e))
+  after_end_stays offset e w = ap placed_of (kept front a b 3 offset w (λ t. absurd (t refl)) 4097 0 0 nothing (listed_refused (front ++ a) 3 offset e))

@@ -37,9 +37,9 @@ module _ (room : Bool) (job : List ℕ) (p : Place) (joints : JointTable) (memor
   unfolding walk_from
   walk_none = refl
 
-  pub walk-step-suc : (n : ℕ) → walk_from room (suc n) job p joints memory ≡ outcome job p joints memory (onward room n job p joints memory)
+  pub walk_step_suc : (n : ℕ) → walk_from room (suc n) job p joints memory ≡ outcome job p joints memory (onward room n job p joints memory)
   unfolding walk_from
-  walk-step-suc n = refl
+  walk_step_suc n = refl
 
   pub walk_step : (left : ℕ) → 0 < left → walk_from room left job p joints memory ≡ outcome job p joints memory (onward room (left - 1) job p joints memory)
   unfolding walk_from
@@ -123,34 +123,34 @@ early_none job p = by (known byte) (ltb (length job) (p.offset + 1 + operands_wi
     by true false false false e1 e2 e3 e4 z = record { known_byte = e1; whole = ltb-false (length job) (p.offset + 1 + operands_width (byte_at job p.offset)) e2; few = e3; placed = e4 }
 
 module _ (job : List ℕ) (p : Place) (joints : JointTable) (b : is_block (byte_at job p.offset) ≡ false) where
-  pub one-fault : fault_from job p joints ≡ command_fault job p joints
+  pub one_fault : fault_from job p joints ≡ command_fault job p joints
   unfolding fault_from
-  one-fault = rw b
+  one_fault = rw b
 
-  pub early-fault : (n : ℕ) → early_fault (length job) p.offset (byte_at job p.offset) p.count p.state.given ≡ suc n → fault_from job p joints ≡ suc n
+  pub early_fault_lem : (n : ℕ) → early_fault (length job) p.offset (byte_at job p.offset) p.count p.state.given ≡ suc n → fault_from job p joints ≡ suc n
   unfolding early_fault command_fault
-  early-fault n e =
+  early_fault_lem n e =
       let c = command_at job p.offset in
-      one-fault
+      one_fault
       ∙ first_front (early_tests (length job) p.offset (byte_at job p.offset) p.count p.state.given) ((not (in_range c), 5) ∷ (absent_in p.state joints.given c, 6) ∷ []) n e
 
   -- the other tests, in their order
   module _ (e : Early job p) where
-    not-cut : ltb (length job) (p.offset + 1 + operands_width (byte_at job p.offset)) ≡ false
-    not-cut = le-ltb (length job) (p.offset + 1 + operands_width (byte_at job p.offset)) e.whole
+    not_cut : ltb (length job) (p.offset + 1 + operands_width (byte_at job p.offset)) ≡ false
+    not_cut = le-ltb (length job) (p.offset + 1 + operands_width (byte_at job p.offset)) e.whole
 
     pub fault5 : in_range (command_at job p.offset) ≡ false → fault_from job p joints ≡ 5
     unfolding command_fault
-    fault5 r = one-fault ∙ rw (e.known_byte, not-cut, e.few, e.placed, r)
+    fault5 r = one_fault ∙ rw (e.known_byte, not_cut, e.few, e.placed, r)
 
     module _ (r : in_range (command_at job p.offset) ≡ true) where
       pub fault6 : absent_in p.state joints.given (command_at job p.offset) ≡ true → fault_from job p joints ≡ 6
       unfolding command_fault
-      fault6 a = one-fault ∙ rw (e.known_byte, not-cut, e.few, e.placed, r, a)
+      fault6 a = one_fault ∙ rw (e.known_byte, not_cut, e.few, e.placed, r, a)
 
       pub fault0 : absent_in p.state joints.given (command_at job p.offset) ≡ false → fault_from job p joints ≡ 0
       unfolding command_fault
-      fault0 a = one-fault ∙ rw (e.known_byte, not-cut, e.few, e.placed, r, a)
+      fault0 a = one_fault ∙ rw (e.known_byte, not_cut, e.few, e.placed, r, a)
 
 -- ---- a block
 
@@ -188,27 +188,27 @@ block_early_none job p =
         }
 
 module _ (job : List ℕ) (p : Place) (joints : JointTable) (b : is_block (byte_at job p.offset) ≡ true) where
-  pub many-fault : fault_from job p joints ≡ block_fault job p
+  pub many_fault : fault_from job p joints ≡ block_fault job p
   unfolding fault_from
-  many-fault = rw b
+  many_fault = rw b
 
-  pub block-early-fault : (n : ℕ) → block_early_fault job p.offset p.count p.state.given p.state.walled ≡ suc n → fault_from job p joints ≡ suc n
+  pub block_early_fault_lem : (n : ℕ) → block_early_fault job p.offset p.count p.state.given p.state.walled ≡ suc n → fault_from job p joints ≡ suc n
   unfolding block_early_fault block_fault
-  block-early-fault n e =
-      many-fault ∙ first_front (block_early_tests job p.offset p.count p.state.given p.state.walled) ((not (all_in_range (sets_of job p.offset)), 5) ∷ []) n e
+  block_early_fault_lem n e =
+      many_fault ∙ first_front (block_early_tests job p.offset p.count p.state.given p.state.walled) ((not (all_in_range (sets_of job p.offset)), 5) ∷ []) n e
 
   -- 5 is that of the count, operand 0
-  count-named : count_in_range (count_at job p.offset) ≡ false → (n : ℕ) → operand_named n (file_command_at job p.offset) ≡ 0
+  count_named : count_in_range (count_at job p.offset) ≡ false → (n : ℕ) → operand_named n (file_command_at job p.offset) ≡ 0
   unfolding file_operand_at_fault
-  count-named r n = rw (at_block job p.offset b, storeys_length (count_at job p.offset) job (p.offset + 2), r) (both (eqb n 5))
+  count_named r n = rw (at_block job p.offset b, storeys_length (count_at job p.offset) job (p.offset + 2), r) (both (eqb n 5))
     where
       both : (k : Bool) → ◌≡◌ {A = ℕ} (cond k 0 0) 0
       both true = refl
       both false = refl
 
-  pub block-early-named : (n : ℕ) → block_early_fault job p.offset p.count p.state.given p.state.walled ≡ n → operand_named n (file_command_at job p.offset) ≡ 0
+  pub block_early_named : (n : ℕ) → block_early_fault job p.offset p.count p.state.given p.state.walled ≡ n → operand_named n (file_command_at job p.offset) ≡ 0
   unfolding block_early_fault
-  block-early-named n e = by (count_in_range (count_at job p.offset)) refl
+  block_early_named n e = by (count_in_range (count_at job p.offset)) refl
     where
       never : (n c m g w : Bool) → first_of ((n, 1) ∷ (false, 5) ∷ (c, 1) ∷ (m, 8) ∷ (g, 4) ∷ (w, 6) ∷ []) ≡ 5 → ⊥
       never true c m g w e = omega arith
@@ -219,16 +219,16 @@ module _ (job : List ℕ) (p : Place) (joints : JointTable) (b : is_block (byte_
       never false false false false false e = omega arith
 
       by : (i : Bool) → count_in_range (count_at job p.offset) ≡ i → operand_named n (file_command_at job p.offset) ≡ 0
-      by false r = count-named r n
+      by false r = count_named r n
       by true r =
           not_named n (file_command_at job p.offset)
           (λ z. never (leb (length job) (p.offset + 1)) (ltb (length job) (p.offset + 2 + 24 * count_at job p.offset)) (passes_limit (count_at job p.offset) p.count) (not p.state.given) (not p.state.walled) ((rw r at e) ∙ z))
 
   module _ (e : BlockEarly job p) where
-    pub block-fault-is : (r : Bool) → all_in_range (sets_of job p.offset) ≡ r → fault_from job p joints ≡ first_of ((not r, 5) ∷ [])
+    pub block_fault_is : (r : Bool) → all_in_range (sets_of job p.offset) ≡ r → fault_from job p joints ≡ first_of ((not r, 5) ∷ [])
     unfolding block_fault passes_limit
-    block-fault-is r q =
-        many-fault
+    block_fault_is r q =
+        many_fault
         ∙ rw (
           lt-leb (length job) (p.offset + 1) e.counted,
           e.count_in_range_lem,
@@ -239,7 +239,7 @@ module _ (job : List ℕ) (p : Place) (joints : JointTable) (b : is_block (byte_
           q,
         )
 
-    pub set-is-named : all_in_range (sets_of job p.offset) ≡ false → operand_named 5 (file_command_at job p.offset) ≡ set_named (sets_of job p.offset)
+    pub set_is_named : all_in_range (sets_of job p.offset) ≡ false → operand_named 5 (file_command_at job p.offset) ≡ set_named (sets_of job p.offset)
     unfolding file_operand_at_fault
-    set-is-named r =
+    set_is_named r =
         rw (at_block job p.offset b, storeys_length (count_at job p.offset) job (p.offset + 2), e.count_in_range_lem) (sym (one_named (sets_of job p.offset) r))

@@ -12,7 +12,7 @@ use Rattle.layout.specs.Forms.{width}
 use Rattle.layout.specs.Layouts.{forms_of, forms_in}
 use Rattle.layout.specs.Operands.{byte_at, operands_at}
 use Rattle.layout.proofs.Numbers.{Bytes}
-use Rattle.layout.proofs.KnownBytes.{each-byte}
+use Rattle.layout.proofs.KnownBytes.{each_byte}
 use Rattle.layout.proofs.OperandsRead.{at, Fit, operands_fit}
 use Rattle.coefficient.specs.Coefficient.{fraction}
 use Rattle.walls.specs.declared.Storey.{Storey}
@@ -23,18 +23,18 @@ use Rattle.format.specs.Commands.{byte_of, command_of, in_range}
 use Rattle.format.specs.Reading.{command_at}
 use Rattle.format.proofs.CommandBytes.{command_above}
 use Rattle.blocks.specs.Sets.{is_block, sets_of, all_in_range}
-use Rattle.blocks.proofs.Sets.{each-in-range}
+use Rattle.blocks.proofs.Sets.{each_in_range}
 use Rattle.blocks.specs.FileCommands.{file_command_at, storeys_from, commands_from}
 use Rattle.blocks.proofs.FileCommands.{at_one, at_block}
 use Rattle.context.specs.declared.State.{State}
 use Rattle.context.specs.Context.{Context, next}
 use Rattle.context.specs.Running.{JointTable, next_state, next_given, next_sums, next_joints, SoundState, SoundSums}
 use Rattle.context.proofs.Laws.{next_sound, sums_sound, given_length, sums_length}
-use Rattle.context.proofs.Shown.{Shows, IdsFit, InPlace, settings-given, shows-next}
+use Rattle.context.proofs.Shown.{Shows, IdsFit, InPlace, settings_given_lem, shows_next}
 use Rattle.rows.specs.Rows.{rows_of, words}
 use Rattle.rows.specs.Writing.{rows_from, set_rows}
 use Rattle.rows.proofs.Laws.{Eights, words_eight, eights_both, rows_count, rows_le}
-use Rattle.rows.proofs.RowsSame.{rows_same, rows-as-many}
+use Rattle.rows.proofs.RowsSame.{rows_same, rows_as_many}
 use Rattle.job.specs.Faults.{misplaced}
 use Rattle.job.specs.Placed.{Placed, context_after, place_each, all_rows}
 use Rattle.job.specs.Walking.{state_through, joints_through, rows_through}
@@ -45,7 +45,7 @@ use Rattle.job.proofs.Faultless.{Standing, Chained}
 ids_fit : (byte : ℕ) (v : ℕ → ℕ) → Fit byte v → IdsFit (command_of byte v)
 unfolding command_of forms_of forms_in width
 ids_fit byte v =
-    each-byte (λ b. Fit b v → IdsFit (command_of b v)) (λ f. tt) (λ f. tt) (λ f. f 0 (lit< tt)) (λ f. tt) (λ f. tt) (λ f. (f 1 (lit< tt), f 2 (lit< tt))) (λ f. tt) (λ f. tt) (λ f. tt) (λ f. tt) (λ f. tt)
+    each_byte (λ b. Fit b v → IdsFit (command_of b v)) (λ f. tt) (λ f. tt) (λ f. f 0 (lit< tt)) (λ f. tt) (λ f. tt) (λ f. (f 1 (lit< tt), f 2 (lit< tt))) (λ f. tt) (λ f. tt) (λ f. tt) (λ f. tt) (λ f. tt)
     (λ b h f. subst IdsFit (sym (command_above b v h)) tt) byte
 
 pub ids_read : (job : List ℕ) (offset : ℕ) → Bytes job → IdsFit (command_at job offset)
@@ -98,18 +98,18 @@ module _ (room : Bool) (t : State) (joints : JointTable) (h : Context) (s : Show
   abbrev here : Placed
   here = record { offset = at; command = c; context = h }
 
-  placed-here : Standing here → InPlace t c
-  placed-here w = in_place t c (ap (λ (g : Bool). misplaced (byte_of c) g) (sym (settings-given room t joints h s)) ∙ w.settings)
+  placed_here : Standing here → InPlace t c
+  placed_here w = in_place t c (ap (λ (g : Bool). misplaced (byte_of c) g) (sym (settings_given_lem room t joints h s)) ∙ w.settings)
 
-  shown-here : IdsFit c → Standing here → Shows room (next_state room t c) (next_joints room joints c) (next h c)
-  shown-here i w = shows-next room t joints h s c i (placed-here w)
+  shown_here : IdsFit c → Standing here → Shows room (next_state room t c) (next_joints room joints c) (next h c)
+  shown_here i w = shows_next room t joints h s c i (placed_here w)
 
 -- they leave a state and tables that show what holds then
 pub shows_through : (room : Bool) (t : State) (joints : JointTable) (h : Context) → Shows room t joints h → (cs : List (ℕ × Command)) → AllFit cs → Chained h (place_each h cs) →
     Shows room (state_through room t cs) (joints_through room joints cs) (context_after h (place_each h cs))
 shows_through room t joints h s [] f k = s
 shows_through room t joints h s ((at, c) ∷ cs) (i, f) (e, w, k) =
-    shows_through room (next_state room t c) (next_joints room joints c) (next h c) (shown-here room t joints h s at c i w) cs f k
+    shows_through room (next_state room t c) (next_joints room joints c) (next h c) (shown_here room t joints h s at c i w) cs f k
 
 -- where rows are to be written they are those of the context
 pub rows_through_lem : (t : State) (joints : JointTable) (h : Context) → Shows true t joints h → (cs : List (ℕ × Command)) → AllFit cs → Chained h (place_each h cs) → rows_through true t joints cs ≡ all_rows (place_each h cs)
@@ -117,8 +117,8 @@ unfolding rows_through all_rows
 rows_through_lem t joints h s [] f k = refl
 rows_through_lem t joints h s ((at, c) ∷ cs) (i, f) (e, w, k) =
     ap₂ ◌++◌
-    (ap (map (words at (byte_of c))) (rows_same true t joints h s refl c i (placed-here true t joints h s at c w) w.present))
-    (rows_through_lem (next_state true t c) (next_joints true joints c) (next h c) (shown-here true t joints h s at c i w) cs f k)
+    (ap (map (words at (byte_of c))) (rows_same true t joints h s refl c i (placed_here true t joints h s at c w) w.present))
+    (rows_through_lem (next_state true t c) (next_joints true joints c) (next h c) (shown_here true t joints h s at c i w) cs f k)
 
 -- and else as many
 pub rows_through_many : (t : State) (joints : JointTable) (h : Context) → Shows false t joints h → (cs : List (ℕ × Command)) → AllFit cs → Chained h (place_each h cs) → length (rows_through false t joints cs) ≡ length (all_rows (place_each h cs))
@@ -126,7 +126,7 @@ unfolding rows_through all_rows
 rows_through_many t joints h s [] f k = refl
 rows_through_many t joints h s ((at, c) ∷ cs) (i, f) (e, w, k) =
     let own = rows_from (next_state false t c) (next_sums false joints.sums c) c in
-    let ih = rows_through_many (next_state false t c) (next_joints false joints c) (next h c) (shown-here false t joints h s at c i w) cs f k in
+    let ih = rows_through_many (next_state false t c) (next_joints false joints c) (next h c) (shown_here false t joints h s at c i w) cs f k in
     omega (
       arith,
       ih,
@@ -135,7 +135,7 @@ rows_through_many t joints h s ((at, c) ∷ cs) (i, f) (e, w, k) =
       length-map own (words at (byte_of c)),
       length-map (rows_of h c) (words at (byte_of c)),
       rows_count (next_state false t c) (next_sums false joints.sums c) c,
-      rows-as-many false t joints h s c (placed-here false t joints h s at c w) w.present,
+      rows_as_many false t joints h s c (placed_here false t joints h s at c w) w.present,
     )
 
 -- each row has eight words
@@ -154,16 +154,16 @@ module _ (room : Bool) (t : State) (joints : JointTable) where
   state_kept at [] = refl
   state_kept at (s ∷ ss) = state_kept (at + 24) ss
 
-  pub joints-kept : (at : ℕ) (ss : List Storey) → joints_through room joints (storeys_from at ss) ≡ joints
+  pub joints_kept : (at : ℕ) (ss : List Storey) → joints_through room joints (storeys_from at ss) ≡ joints
   unfolding next_given next_sums
-  joints-kept at [] = refl
-  joints-kept at (s ∷ ss) = joints-kept (at + 24) ss
+  joints_kept at [] = refl
+  joints_kept at (s ∷ ss) = joints_kept (at + 24) ss
 
-  pub set-rows-through : (at : ℕ) (ss : List Storey) → rows_through room t joints (storeys_from at ss) ≡ set_rows t.wall at ss
+  pub set_rows_through : (at : ℕ) (ss : List Storey) → rows_through room t joints (storeys_from at ss) ≡ set_rows t.wall at ss
   unfolding next_state next_given next_sums rows_through rows_from set_rows
-  set-rows-through at [] = refl
-  set-rows-through at (s ∷ ss) =
-      ap (λ (xs : List (List ℤ)). words at 7 (storey_row_from (fraction t.wall.coefficient) t.wall.shear t.wall.resistance s) ∷ xs) (set-rows-through (at + 24) ss)
+  set_rows_through at [] = refl
+  set_rows_through at (s ∷ ss) =
+      ap (λ (xs : List (List ℤ)). words at 7 (storey_row_from (fraction t.wall.coefficient) t.wall.shear t.wall.resistance s) ∷ xs) (set_rows_through (at + 24) ss)
 
 -- ---- commands in range keep the state and the tables sound, and the tables' lengths
 
@@ -173,7 +173,7 @@ AllIn ((at, c) ∷ cs) = (in_range c ≡ true) × AllIn cs
 
 pub storeys_in : (at : ℕ) (ss : List Storey) → all_in_range ss ≡ true → AllIn (storeys_from at ss)
 storeys_in at [] r = tt
-storeys_in at (s ∷ ss) r = let e = each-in-range s ss r in (e.0, storeys_in (at + 24) ss e.1)
+storeys_in at (s ∷ ss) r = let e = each_in_range s ss r in (e.0, storeys_in (at + 24) ss e.1)
 
 pub sound_through : (room : Bool) (t : State) (cs : List (ℕ × Command)) → AllIn cs → SoundState t → SoundState (state_through room t cs)
 sound_through room t [] i s = s

@@ -22,14 +22,14 @@ use Rattle.job.specs.Earlier.{widths_of}
 use Rattle.job.specs.Walking.{Final, state_through, joints_through, commands_here, walk_from, first_place, no_joints}
 use Rattle.job.specs.Reached.{reached_from, reached, located, place_behind, place_after, StandsAfter}
 use Rattle.job.proofs.Steps.{walk_none}
-use Rattle.job.proofs.Faultless.{Chained, end-of}
+use Rattle.job.proofs.Faultless.{Chained, end_of_lem}
 use Rattle.job.proofs.OneCommand.{Going, stepped, further}
 use Rattle.job.proofs.PlacedCases.{weight_at, context_behind}
-use Rattle.job.proofs.Reached.{none_first, Goes, reached_after, first-reached, chained-reached}
+use Rattle.job.proofs.Reached.{none_first, Goes, reached_after, first_reached, chained_reached}
 use Rattle.job.proofs.AlreadyMet.{rows_of_both}
 use Rattle.job.proofs.Located.{located_both, located_more, state_both, joints_both, placed_again, chained_front, fit_front, reached_fit}
 use Rattle.job.proofs.Through.{AllFit, shows_through}
-use Rattle.job.proofs.Begin.{begin-shows, begin-going}
+use Rattle.job.proofs.Begin.{begin_shows, begin_going}
 
 -- a walk after these commands: where it stands, and what is left of it
 record After (room : Bool) (job : List ℕ) (p : Place) (joints : JointTable) (memory : List ℤ) (es : List Entry) : Type 0 where
@@ -63,12 +63,12 @@ unfolding all_rows stored_all reached_from
 after n room job p joints memory h g [] later e = record { offset = omega arith; state = refl; same = λ k. ap (λ (m : ℕ). walk_from room m job p joints memory) (zero-add k) }
 after zero room job p joints memory h g (x ∷ earlier) later e = absurd (none_first e)
 after (suc n) room job p joints memory h g (x ∷ earlier) later e =
-    let (w, s) = first-reached n job p.offset p.count h x (earlier ++ later) e in
+    let (w, s) = first_reached n job p.offset p.count h x (earlier ++ later) e in
     let here = entry_at job p.offset h in
     let q : reached_after n job p.offset p.count h ≡ earlier ++ later = cc in
     let r : entry_at job p.offset h ≡ x = cc in
     let b = place_behind room p here in
-    let o : b.offset ≡ after_command job p.offset = end-of job p.offset p.count h w.no_fault in
+    let o : b.offset ≡ after_command job p.offset = end_of_lem job p.offset p.count h w.no_fault in
     subst (λ (y : Entry). After room job p joints memory (y ∷ earlier)) r
     (after_more room job p joints memory h n g w earlier
     (after n room job b (joints_through room joints (commands_here job p)) (stored_all memory p.rows (all_rows (placed_in here))) (context_behind job p.offset h)
@@ -80,7 +80,7 @@ module _ (room : Bool) (sums : List ℕ) (s : SoundSums room sums) (job : List �
   module _ (earlier later : List Entry) (e : reached job ≡ earlier ++ later) where
     from_start : (memory : List ℤ) → room_for (length memory) ≡ room → After room job first_place (no_joints sums) memory earlier
     unfolding reached first_place
-    from_start memory r = after 4097 room job first_place (no_joints sums) memory nothing (begin-going room sums s job memory b r) earlier later e
+    from_start memory r = after 4097 room job first_place (no_joints sums) memory nothing (begin_going room sums s job memory b r) earlier later e
 
     -- that place is where they end
     pub ends_there : (memory : List ℤ) → room_for (length memory) ≡ room → (place_after room first_place earlier).offset ≡ widths_of earlier
@@ -88,9 +88,9 @@ module _ (room : Bool) (sums : List ℕ) (s : SoundSums room sums) (job : List �
     ends_there memory r = omega (arith, (from_start memory r).offset)
 
     -- its state is the one after the commands that they give
-    pub state-there : (memory : List ℤ) → room_for (length memory) ≡ room → (place_after room first_place earlier).state ≡ state_through room start_state (located (placed_all earlier))
+    pub state_there : (memory : List ℤ) → room_for (length memory) ≡ room → (place_after room first_place earlier).state ≡ state_through room start_state (located (placed_all earlier))
     unfolding first_place
-    state-there memory r = (from_start memory r).state
+    state_there memory r = (from_start memory r).state
 
     -- the walk goes on from the place that these commands leave
     pub stands_after : (memory : List ℤ) → room_for (length memory) ≡ room → StandsAfter room job (no_joints sums) memory earlier
@@ -98,20 +98,20 @@ module _ (room : Bool) (sums : List ℕ) (s : SoundSums room sums) (job : List �
     stands_after memory r = (from_start memory r).same
 
     -- with a budget of as many commands it pauses there
-    pub pauses-there : (memory : List ℤ) → room_for (length memory) ≡ room → (walk_from room (length earlier) job first_place (no_joints sums) memory).answer ≡ Paused (place_after room first_place earlier)
-    pauses-there memory r =
+    pub pauses_there : (memory : List ℤ) → room_for (length memory) ≡ room → (walk_from room (length earlier) job first_place (no_joints sums) memory).answer ≡ Paused (place_after room first_place earlier)
+    pauses_there memory r =
         let z : length earlier ≡ length earlier + 0 = omega arith in
         ap (λ (k : ℕ). (walk_from room k job first_place (no_joints sums) memory).answer) z
         ∙ ap (λ (f : Final). f.answer)
         (stands_after memory r 0 ∙ walk_none room job (place_after room first_place earlier) (joints_through room (no_joints sums) (located (placed_all earlier))) (stored_all memory 0 (all_rows (placed_all earlier))))
 
   -- the state and the table after any of the placed commands show what holds there
-  pub shows-after : (earlier later : List Placed) → placed_all (reached job) ≡ earlier ++ later →
+  pub shows_after : (earlier later : List Placed) → placed_all (reached job) ≡ earlier ++ later →
       Shows room (state_through room start_state (located earlier)) (joints_through room (no_joints sums) (located earlier)) (context_after nothing earlier)
   unfolding reached
-  shows-after earlier later e =
-      let chain : Chained nothing earlier = chained_front nothing earlier later (subst (Chained nothing) e (chained-reached job)) in
+  shows_after earlier later e =
+      let chain : Chained nothing earlier = chained_front nothing earlier later (subst (Chained nothing) e (chained_reached job)) in
       let again : place_each nothing (located earlier) ≡ earlier = placed_again nothing earlier chain in
       let fit : AllFit (located earlier) = fit_front (located earlier) (located later) (subst AllFit (ap located e ∙ located_both earlier later) (reached_fit 4097 job b 0 0 nothing)) in
       subst (λ (ps : List Placed). Shows room (state_through room start_state (located earlier)) (joints_through room (no_joints sums) (located earlier)) (context_after nothing ps)) again
-      (shows_through room start_state (no_joints sums) nothing (begin-shows room sums s) (located earlier) fit (subst (Chained nothing) (sym again) chain))
+      (shows_through room start_state (no_joints sums) nothing (begin_shows room sums s) (located earlier) fit (subst (Chained nothing) (sym again) chain))

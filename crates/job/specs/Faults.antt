@@ -30,7 +30,7 @@ too_many byte count = not (eqb byte 0) && leb 4096 count
 
 -- 4: first command not settings, or settings again; by the byte, and whether settings are given
 unfoldable pub misplaced : ℕ → Bool → Bool
-misplaced byte settingsGiven = cond settingsGiven (eqb byte 1) (not (eqb byte 1))
+misplaced byte settings_given = cond settings_given (eqb byte 1) (not (eqb byte 1))
 
 -- 5: operand out of range
 abbrev pub out_of_range : Command → Bool

@@ -25,15 +25,15 @@ use Rattle.job.specs.Answers.{Answer, rows_answer, refused_answer}
 -- the tests that need a command's byte alone: by the job's length, the command's offset and byte, the commands before it, and
 -- whether settings are given
 abbrev pub early_tests : ℕ → ℕ → ℕ → ℕ → Bool → List (Bool × ℕ)
-early_tests bytes at byte count settingsGiven =
+early_tests bytes at byte count settings_given =
     (not (known byte), 2)
     ∷ (ltb bytes (at + 1 + operands_width byte), 1)
     ∷ (too_many byte count, 8)
-    ∷ (misplaced byte settingsGiven, 4)
+    ∷ (misplaced byte settings_given, 4)
     ∷ []
 
 unfoldable pub early_fault : ℕ → ℕ → ℕ → ℕ → Bool → ℕ
-early_fault bytes at byte count settingsGiven = first_of (early_tests bytes at byte count settingsGiven)
+early_fault bytes at byte count settings_given = first_of (early_tests bytes at byte count settings_given)
 
 -- these, and then the two that need the command
 unfoldable pub command_fault : List ℕ → Place → JointTable → ℕ
@@ -47,17 +47,17 @@ command_fault job p joints =
 
 -- the tests of a block before that of its sets: by the commands before it, and whether settings and a wall base are given
 abbrev pub block_early_tests : List ℕ → ℕ → ℕ → Bool → Bool → List (Bool × ℕ)
-block_early_tests job at count settingsGiven walled =
+block_early_tests job at count settings_given walled =
     (count_missing job at, 1)
     ∷ (count_out_of_range (count_at job at), 5)
     ∷ (ltb (length job) (at + 2 + 24 * count_at job at), 1)
     ∷ (passes_limit (count_at job at) count, 8)
-    ∷ (not settingsGiven, 4)
+    ∷ (not settings_given, 4)
     ∷ (not walled, 6)
     ∷ []
 
 unfoldable pub block_early_fault : List ℕ → ℕ → ℕ → Bool → Bool → ℕ
-block_early_fault job at count settingsGiven walled = first_of (block_early_tests job at count settingsGiven walled)
+block_early_fault job at count settings_given walled = first_of (block_early_tests job at count settings_given walled)
 
 -- these, and then that of its sets
 unfoldable pub block_fault : List ℕ → Place → ℕ

@@ -1,4 +1,6 @@
 // The walk over a job's commands: every fault in 01's order, what holds, and the rows where there is room.
+#![tactic(auto)]
+
 ghost use Rattle.std.specs.Prelude.{◌≡◌, ◌≤◌, ◌<◌, length};
 ghost use Rattle.context.specs.Running.{room_for};
 ghost use Rattle.layout.specs.Layouts.{operands_width};
@@ -11,7 +13,7 @@ ghost use Rattle.job.specs.Answers.{row_count_answer, size_of, fault_of};
 use context::State;
 
 // Where the walk stands: the offset of the next command, the commands and the rows so far, and what holds.
-#[derive(Drop)]
+#[derive(Clone, Copy)]
 pub struct Place {
     pub offset: usize,
     pub count: u32,
@@ -19,7 +21,7 @@ pub struct Place {
     pub state: State,
 }
 
-#[derive(Drop)]
+#[derive(Clone, Copy)]
 pub enum Walked {
     // Number, offset, and the operand named.
     Refused(u32, usize, u32),
@@ -29,7 +31,7 @@ pub enum Walked {
 }
 
 // How a stretch of commands by themselves ended.
-#[derive(Drop)]
+#[derive(Clone, Copy)]
 enum Stretch {
     // Number, offset, and the operand named.
     Refused(u32, usize, u32),
@@ -40,14 +42,14 @@ enum Stretch {
     Block(Place, u32),
 }
 
-#[derive(Drop)]
+#[derive(Clone, Copy)]
 struct StretchEnd {
     ended: Stretch,
     storeys: bool,
 }
 
 // How the step over a block ended.
-#[derive(Drop)]
+#[derive(Clone, Copy)]
 enum BlockStep {
     // Number, offset, and the operand named.
     Refused(u32, usize, u32),
@@ -57,21 +59,21 @@ enum BlockStep {
 
 // A walk: how it ended, and whether it met a storey. No promise rests on the latter: it only tells whether the table of cubes
 // is worth making before the rows are written.
-#[derive(Drop)]
+#[derive(Clone, Copy)]
 pub struct WalkEnd {
     pub ended: Walked,
     pub storeys: bool,
 }
 
 // The answer of size.
-#[derive(Drop)]
+#[derive(Clone, Copy)]
 pub enum RowCount {
     Rows(usize),
     Refused(u32, usize),
 }
 
 // The answer of fault: the refusal's number and offset, the byte at the offset, and the operand named.
-#[derive(Drop)]
+#[derive(Clone, Copy)]
 pub struct FaultAnswer {
     pub number: u32,
     pub offset: usize,
@@ -159,8 +161,8 @@ fn walk_stretch(
     rows: &mut [i64],
 ) -> StretchEnd
     requires table { LentCubes table.now }
-    requires asks { WalkAsks job.now start (record { given = given.now; sums = sums.old }) (room_for (length rows.old)) }
-    ensures { Stretched (room_for (length rows.old)) budget (walk_from (room_for (length rows.old)) budget job.now start (record { given = given.entry.now; sums = sums.old }) rows.old) job.now (record { given = given.exit.now; sums = sums.new }) rows.new result.ended }
+    requires asks { WalkAsks job.now start (record { given = given.old; sums = sums.old }) (room_for (length rows.old)) }
+    ensures { Stretched (room_for (length rows.old)) budget (walk_from (room_for (length rows.old)) budget job.now start (record { given = given.old; sums = sums.old }) rows.old) job.now (record { given = given.new; sums = sums.new }) rows.new result.ended }
 {
     let room = 8 <= rows.len();
     let mut offset = start.offset;
@@ -275,8 +277,8 @@ pub fn walk(
     rows: &mut [i64],
 ) -> WalkEnd
     requires table { LentCubes table.now }
-    requires asks { WalkAsks job.now start (record { given = given.now; sums = sums.old }) (room_for (length rows.old)) }
-    ensures { walk_from (room_for (length rows.old)) budget job.now start (record { given = given.entry.now; sums = sums.old }) rows.old ≡ record { answer = result.ended; joints = record { given = given.exit.now; sums = sums.new }; memory = rows.new } }
+    requires asks { WalkAsks job.now start (record { given = given.old; sums = sums.old }) (room_for (length rows.old)) }
+    ensures { walk_from (room_for (length rows.old)) budget job.now start (record { given = given.old; sums = sums.old }) rows.old ≡ record { answer = result.ended; joints = record { given = given.new; sums = sums.new }; memory = rows.new } }
 {
     let mut place = start;
     let mut left = budget;

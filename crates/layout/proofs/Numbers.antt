@@ -125,7 +125,7 @@ low_fits x h = record { sfits = h }
 
 -- the result of `signed` at a call
 pub returned : {z : ℤ} → mag z < 2147483648 → to_z w32 (of_z w32 z) ≡ z
-returned h = to_z-of_z (record { sfits = h })
+returned {z = z} h = to_z-of_z {w = w32} {z = z} (record { sfits = h })
 
 pub returned_as : {z w : ℤ} → mag z < 2147483648 → z ≡ w → to_z w32 (of_z w32 z) ≡ w
 returned_as h e = returned h ∙ e

@@ -5,7 +5,7 @@ use Prim.Native.Nat.{ℕ, ◌≤◌, ◌<◌}
 use native.Mathlib.Omega.{arith}
 use Rattle.layout.specs.Forms.{width}
 use Rattle.layout.specs.Layouts.{known, known_in, forms_of, forms_in, width_of_all, operands_width}
-use Rattle.layout.proofs.KnownBytes.{each-byte, forms_above}
+use Rattle.layout.proofs.KnownBytes.{each_byte, forms_above}
 
 pub record OperandWidths : Type 0 where
   pub finish : operands_width 0 ≡ 0
@@ -44,7 +44,7 @@ width_above b h = rw (forms_above b h) (omega arith)
 -- those of a footing are the widest
 pub width_le : (byte : ℕ) → operands_width byte ≤ 57
 width_le =
-    each-byte (λ b. operands_width b ≤ 57) (omega (arith, widths.finish)) (omega (arith, widths.settings)) (omega (arith, widths.joint)) (omega (arith, widths.column))
+    each_byte (λ b. operands_width b ≤ 57) (omega (arith, widths.finish)) (omega (arith, widths.settings)) (omega (arith, widths.joint)) (omega (arith, widths.column))
     (omega (arith, widths.beam)) (omega (arith, widths.hingeless)) (omega (arith, widths.wall_base)) (omega (arith, widths.storey)) (omega (arith, widths.soil))
     (omega (arith, widths.footing)) (omega (arith, widths.detail)) width_above
 

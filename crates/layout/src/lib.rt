@@ -1,14 +1,16 @@
 // The layout of a job's commands: the forms of operands with their widths and ranges, the operands of each command in order, and
 // the numbers of a file. 01, "Job commands".
+#![tactic(auto)]
+
 ghost use Rattle.std.specs.Prelude.{◌≡◌, ◌+◌, ◌≤◌, ◌<◌, length, get_or, take, drop};
 ghost use Rattle.layout.specs.Number.{number as number_of, signed32, InJob, ByteAt};
 ghost use Rattle.layout.specs.Forms.{width, form_in_range};
-ghost use Rattle.layout.specs.Layouts.{known as knownByte, forms_of, operands_width};
+ghost use Rattle.layout.specs.Layouts.{known as known_byte_of, forms_of, operands_width};
 
 use quantity::{Factor, Force, Length, Moment};
 
 // The forms of operands.
-#[derive(Drop)]
+#[derive(Clone, Copy)]
 pub enum Form {
     Id,
     Behaviour,
@@ -32,7 +34,7 @@ pub enum Form {
 
 // Whether the byte is that of a command.
 pub fn known(command: u8) -> bool
-    ensures { result ≡ knownByte command }
+    ensures { result ≡ known_byte_of command }
 {
     command <= 10
 }

@@ -1,6 +1,11 @@
 // The listing program: a job on standard input, its listing on standard output. 01, "Figures to hold to".
-fn main() {
+#![tactic(auto)]
+
+fn main(rt: HostRuntime) {
     console::print(
+        &rt,
+        &mut rt.stdin(),
+        &mut rt.stderr(),
         false,
         b"listing: standard input",
         b"listing: standard output",

@@ -4,7 +4,7 @@ use Prim.Native.Nat.{ℕ, ◌+◌, ◌*◌, ◌≤◌}
 use native.Mathlib.Omega.{arith}
 use native.Mathlib.Nat.{mul-le-mul}
 use lib.Dec.{ltb, eqb}
-use lib.IntN.{ℤ, pos, neg_ℤ, nat_abs, ◌+ℤ◌, ◌-ℤ◌}
+use lib.IntN.{pos, neg_ℤ, nat_abs, ◌+ℤ◌, ◌-ℤ◌}
 use lib.Signed.{lt_z}
 use Rattle.exact.specs.Fraction.{Proper, ratio, up_f}
 use Rattle.exact.specs.SignedFraction.{above, below, up_s, down_s}
@@ -41,8 +41,8 @@ column_sized q c r =
 -- ---- beam: the size of V0 is at most 10⁸, and D at most q·VE/120
 
 module _ (q : ℕ) (b : Beam) (r : BeamRange q b) where
-  parts-at-most : (sum : ℕ) → let d = beam_shear q sum b in above b.nonseismic * d.den + below b.nonseismic * d.den + d.num ≤ 433333334 * d.den
-  parts-at-most sum =
+  parts_at_most : (sum : ℕ) → let d = beam_shear q sum b in above b.nonseismic * d.den + below b.nonseismic * d.den + d.num ≤ 433333334 * d.den
+  parts_at_most sum =
       let d = beam_shear q sum b in
       let steady : above b.nonseismic + below b.nonseismic ≤ 100000000 = omega (arith, nat_abs_law b.nonseismic, r.nonseismic) in
       omega (
@@ -55,15 +55,15 @@ module _ (q : ℕ) (b : Beam) (r : BeamRange q b) where
   positive : (sum : ℕ) → Proper (beam_shear q sum b)
   positive sum = smaller_proper b.length 120 (omega (arith, r.length_least)) (omega arith) _ _
 
-  upper-size : nat_abs (up_s (upper_shear q b)) ≤ 433333334
-  upper-size =
+  upper_size : nat_abs (up_s (upper_shear q b)) ≤ 433333334
+  upper_size =
       let sum = sum_plus b in
-      up_s_size (upper_shear q b) 433333334 (omega (arith, parts-at-most sum)) (omega (arith, positive sum))
+      up_s_size (upper_shear q b) 433333334 (omega (arith, parts_at_most sum)) (omega (arith, positive sum))
 
-  lower-size : nat_abs (down_s (lower_shear q b)) ≤ 433333334
-  lower-size =
+  lower_size : nat_abs (down_s (lower_shear q b)) ≤ 433333334
+  lower_size =
       let sum = sum_minus b in
-      down_s_size (lower_shear q b) 433333334 (omega (arith, parts-at-most sum)) (omega (arith, positive sum))
+      down_s_size (lower_shear q b) 433333334 (omega (arith, parts_at_most sum)) (omega (arith, positive sum))
 
 pub beam_sized : (q : ℕ) (b : Beam) → BeamRange q b → Sized (beam_row q b)
 unfolding beam_row
@@ -73,7 +73,7 @@ beam_sized q b r =
     let plus = beam_governed q (sum_plus b) b in
     let minus = beam_governed q (sum_minus b) b in
     sized upper lower (pos b.strength) (pos (flag 1 plus)) (pos (flag 1 minus)) _
-    (omega (arith, upper-size q b r)) (omega (arith, lower-size q b r)) (omega (arith, r.strength)) (omega (arith, flag_le 1 plus)) (omega (arith, flag_le 1 minus))
+    (omega (arith, upper_size q b r)) (omega (arith, lower_size q b r)) (omega (arith, r.strength)) (omega (arith, flag_le 1 plus)) (omega (arith, flag_le 1 minus))
     (omega (arith, flag_le 1 (lt_z (pos b.strength) upper || lt_z (pos b.strength) (neg_ℤ lower))))
 
 -- ---- member without hinges, detail

@@ -1,5 +1,7 @@
 // Rows of a column, a beam, a member without hinges and a detail: 01, "Members" and "Rows and verdict bits".
 // Every operand is in the range of 01, and every number on the way fits 64 bits.
+#![tactic(auto)]
+
 ghost use Rattle.std.specs.Prelude.{◌≡◌, ◌||◌, ◌&&◌, ◌+◌, ◌*◌, ◌≤◌, min, eqb, pos, neg_ℤ};
 ghost use Rattle.std.specs.Int.Signed.{lt_z};
 ghost use Rattle.exact.specs.Fraction.{ratio, lt_f, smaller};
@@ -16,7 +18,7 @@ use claims::Row;
 use coefficient::{Limited, Quotient, Settings};
 
 // R1, R2 of the plus and of the minus direction, VE the seismic shear, VR the shear strength.
-#[derive(Drop)]
+#[derive(Clone, Copy)]
 pub struct Column {
     pub length: u32,
     pub plus1: u32,
@@ -28,7 +30,7 @@ pub struct Column {
 }
 
 // As a column, with V0, the shear of the non-seismic loads.
-#[derive(Drop)]
+#[derive(Clone, Copy)]
 pub struct Beam {
     pub length: u32,
     pub plus1: u32,
@@ -41,7 +43,7 @@ pub struct Beam {
 }
 
 // RB, RC, EB: sums of beam resistances, of column resistances, of seismic beam moments.
-#[derive(Drop)]
+#[derive(Clone, Copy)]
 pub struct Joint {
     pub beams: u32,
     pub columns: u32,
@@ -49,7 +51,7 @@ pub struct Joint {
 }
 
 // ME1, ME2 the seismic end moments, V0 the shear of the non-seismic loads, VR the shear strength.
-#[derive(Drop)]
+#[derive(Clone, Copy)]
 pub struct Hingeless {
     pub length: u32,
     pub moment1: u32,
@@ -59,7 +61,7 @@ pub struct Hingeless {
 }
 
 // xu and xy, the neutral axis depths at failure and at yield (thousandths), mu the ductility factor (hundredths).
-#[derive(Drop)]
+#[derive(Clone, Copy)]
 pub struct Detail {
     pub place: u32,
     pub ultimate: u32,
@@ -185,7 +187,7 @@ pub fn beam_row(behaviour: u32, b: Beam) -> Row
     }
 }
 
-// m = typeof.a.ME, up; a is that of the end's joint.
+// m = a·ME, up; a is that of the end's joint.
 fn end_moment(settings: Settings, j: Joint, moment: u32) -> u64
     requires range { CoefficientRange settings.joints (min j.beams j.columns) j.seismic settings.behaviour }
     requires moment { moment ≤ 100000000 }

@@ -14,19 +14,19 @@ module _ (l : List ℕ) (at v : ℕ) where
   last : v / 256 ^ 0 % 256 ≡ v % 256
   last = ap (λ (n : ℕ). n % 256) (div-one v)
 
-  pub one-stored : at + 1 ≤ length l → Put l at (big_endian 1 v) (set l at (v % 256))
+  pub one_stored : at + 1 ≤ length l → Put l at (big_endian 1 v) (set l at (v % 256))
   unfolding big_endian written
-  one-stored h = record { bytes = rw (← last) (sets-eq (big_endian 1 v) l at h) }
+  one_stored h = record { bytes = rw (← last) (sets-eq (big_endian 1 v) l at h) }
 
-  pub two-stored : at + 2 ≤ length l → Put l at (big_endian 2 v) (set (set l at (v / 256 % 256)) (at + 1) (v % 256))
+  pub two_stored : at + 2 ≤ length l → Put l at (big_endian 2 v) (set (set l at (v / 256 % 256)) (at + 1) (v % 256))
   unfolding big_endian written
-  two-stored h =
+  two_stored h =
       let e1 : at + 1 ≡ suc at = omega arith in
       record { bytes = rw (← last, e1) (sets-eq (big_endian 2 v) l at h) }
 
-  pub four-stored : at + 4 ≤ length l → Put l at (big_endian 4 v) (set (set (set (set l at (v / 16777216 % 256)) (at + 1) (v / 65536 % 256)) (at + 2) (v / 256 % 256)) (at + 3) (v % 256))
+  pub four_stored : at + 4 ≤ length l → Put l at (big_endian 4 v) (set (set (set (set l at (v / 16777216 % 256)) (at + 1) (v / 65536 % 256)) (at + 2) (v / 256 % 256)) (at + 3) (v % 256))
   unfolding big_endian written
-  four-stored h =
+  four_stored h =
       let e1 : at + 1 ≡ suc at = omega arith in
       let e2 : at + 2 ≡ suc (suc at) = omega arith in
       let e3 : at + 3 ≡ suc (suc (suc at)) = omega arith in

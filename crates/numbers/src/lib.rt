@@ -1,5 +1,7 @@
 // Numbers of 1, 2 and 4 bytes put into a lent slice, the most significant byte first. 01, "Job commands": "operands of fixed width,
 // big-endian"; 02, No. 2.
+#![tactic(auto)]
+
 ghost use Rattle.std.specs.Prelude.{◌≡◌, ◌++◌, ◌+◌, ◌≤◌, length};
 ghost use Rattle.slices.specs.Written.{Put};
 ghost use Rattle.layout.specs.Number.{bits32};

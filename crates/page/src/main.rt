@@ -1,6 +1,11 @@
 // The page program: a job on standard input, its page on standard output; a refusal prints the listing's one line. 02, No. 3.
-fn main() {
+#![tactic(auto)]
+
+fn main(rt: HostRuntime) {
     console::print(
+        &rt,
+        &mut rt.stdin(),
+        &mut rt.stderr(),
         true,
         b"page: standard input",
         b"page: standard output",

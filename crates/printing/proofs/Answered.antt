@@ -2,7 +2,7 @@
 use mathlib.Core.Path.{◌≡◌, refl, sym, ◌∙◌}
 use mathlib.Core.Bool.{Bool, true, false, cond}
 use mathlib.Core.List.{List, ◌++◌}
-use Prim.Native.Nat.{ℕ, ◌+◌, ◌*◌, ◌≤◌, ◌<◌}
+use Prim.Native.Nat.{ℕ, ◌*◌, ◌≤◌, ◌<◌}
 use native.Mathlib.Nat.{zero-add}
 use native.Mathlib.Omega.{arith}
 use borrow.Author.Tests.{ltb-false, lt-ltb, le-ltb}
@@ -17,33 +17,33 @@ use Rattle.printing.proofs.Lengths.{page_length_lem}
 module _ (words : List ℤ) (n : ℕ) where
   -- the answer to `room` bytes
   module _ (room : ℕ) where
-    pub few-answer : length words < 8 * n → page_of words n room ≡ too_few_words n
+    pub few_answer : length words < 8 * n → page_of words n room ≡ too_few_words n
     unfolding page_of
-    few-answer h = rw (lt-ltb (length words) (8 * n) h)
+    few_answer h = rw (lt-ltb (length words) (8 * n) h)
 
     module _ (h : 8 * n ≤ length words) where
-      pub wide-answer : page_too_wide words n ≡ true → page_of words n room ≡ refused_with 12
+      pub wide_answer : page_too_wide words n ≡ true → page_of words n room ≡ refused_with 12
       unfolding page_of
-      wide-answer e = rw (le-ltb (length words) (8 * n) h, e)
+      wide_answer e = rw (le-ltb (length words) (8 * n) h, e)
 
       module _ (e : page_too_wide words n ≡ false) where
-        pub short-answer : room < page_length n → page_of words n room ≡ refused_with 11
+        pub short_answer : room < page_length n → page_of words n room ≡ refused_with 11
         unfolding page_of
-        short-answer l = rw (le-ltb (length words) (8 * n) h, e, lt-ltb room (length (page_text words n)) (omega (arith, page_length_lem words n h e)))
+        short_answer l = rw (le-ltb (length words) (8 * n) h, e, lt-ltb room (length (page_text words n)) (omega (arith, page_length_lem words n h e)))
 
-        pub page-answer : page_length n ≤ room → page_of words n room ≡ printed (length (page_text words n))
+        pub page_answer_lem : page_length n ≤ room → page_of words n room ≡ printed (length (page_text words n))
         unfolding page_of
-        page-answer l = rw (le-ltb (length words) (8 * n) h, e, le-ltb room (length (page_text words n)) (omega (arith, page_length_lem words n h e)))
+        page_answer_lem l = rw (le-ltb (length words) (8 * n) h, e, le-ltb room (length (page_text words n)) (omega (arith, page_length_lem words n h e)))
 
   -- the slice after it
   module _ (before : List ℕ) {a : PageAnswer} (e : page_of words n (length before) ≡ a) where
-    pub refused-bytes : eqb a.number 0 ≡ false → before ≡ bytes_after words n before
+    pub refused_bytes : eqb a.number 0 ≡ false → before ≡ bytes_after words n before
     unfolding bytes_after
-    refused-bytes r = sym (rw (e, r))
+    refused_bytes r = sym (rw (e, r))
 
-    pub page-bytes : eqb a.number 0 ≡ true → {after : List ℕ} {next : ℕ} → Writes before 0 (page_text words n) after next → after ≡ bytes_after words n before
+    pub page_bytes : eqb a.number 0 ≡ true → {after : List ℕ} {next : ℕ} → Writes before 0 (page_text words n) after next → after ≡ bytes_after words n before
     unfolding bytes_after written
-    page-bytes r w = w.bytes ∙ sym (rw (e, r, zero-add))
+    page_bytes r w = w.bytes ∙ sym (rw (e, r, zero-add))
 
 -- ---- a page that is printed
 

@@ -70,17 +70,17 @@ module _ (words : List ℤ) (row : ℕ) (whole : 8 * row + 8 ≤ length words) w
       (too_wide (get_or widths i 0) (get_or words (8 * row + i) (pos 0)) || any_too_wide (drop (suc i) widths) (drop (suc i) (row_words words row)))
   wide_from i h = rw (← word i h) (wide_more widths (row_words words row) i h (omega (arith, eight_words)))
 
-  aligned-from : (i : ℕ) → i < 8 →
+  aligned_from : (i : ℕ) → i < 8 →
       aligned (drop i widths) (drop i (row_words words row)) ≡
       right_aligned (get_or widths i 0) (get_or words (8 * row + i) (pos 0)) ++ aligned (drop (suc i) widths) (drop (suc i) (row_words words row))
-  aligned-from i h = rw (← word i h) (aligned_more widths (row_words words row) i h (omega (arith, eight_words)))
+  aligned_from i h = rw (← word i h) (aligned_more widths (row_words words row) i h (omega (arith, eight_words)))
 
-  pub eighty-characters : any_too_wide widths (row_words words row) ≡ false → length (aligned widths (row_words words row)) ≡ 80
-  eighty-characters e = length_aligned widths (row_words words row) (sym eight_words) e
+  pub eighty_characters : any_too_wide widths (row_words words row) ≡ false → length (aligned widths (row_words words row)) ≡ 80
+  eighty_characters e = length_aligned widths (row_words words row) (sym eight_words) e
 
   pub length_line : any_too_wide widths (row_words words row) ≡ false → length (page_line (row_words words row)) ≡ 81
   unfolding page_line
-  length_line e = length-append (aligned widths (row_words words row)) (line_feed ∷ []) ∙ omega (arith, eighty-characters e)
+  length_line e = length-append (aligned widths (row_words words row)) (line_feed ∷ []) ∙ omega (arith, eighty_characters e)
 
 -- ---- writing a line
 
@@ -120,71 +120,71 @@ put_among_blanks out at done width left first text h short room e =
 
 module _ (words : List ℤ) (row : ℕ) (whole : 8 * row + 8 ≤ length words) (e : any_too_wide widths (row_words words row) ≡ false) {blank : List ℕ} {at : ℕ} {after : List ℕ} {end i : ℕ} (p : LinePart blank at words row after end i) where
   -- what stands there and what does not make 80 characters
-  eighty-in-all : length p.done + length (aligned (drop i widths) (drop i (row_words words row))) ≡ 80
-  eighty-in-all =
-      omega (arith, ap length p.rest, length-append p.done (aligned (drop i widths) (drop i (row_words words row))), eighty-characters words row whole e)
+  eighty_in_all : length p.done + length (aligned (drop i widths) (drop i (row_words words row))) ≡ 80
+  eighty_in_all =
+      omega (arith, ap length p.rest, length-append p.done (aligned (drop i widths) (drop i (row_words words row))), eighty_characters words row whole e)
 
-  pub line-length : at + 80 ≤ length blank → length after ≡ length blank
-  line-length h =
+  pub line_length : at + 80 ≤ length blank → length after ≡ length blank
+  line_length h =
       let text = p.done ++ replicate (80 - length p.done) space in
-      ap length p.bytes ∙ length_written blank at text (omega (arith, length-append p.done (replicate (80 - length p.done) space), length-replicate (80 - length p.done) space, eighty-in-all))
+      ap length p.bytes ∙ length_written blank at text (omega (arith, length-append p.done (replicate (80 - length p.done) space), length-replicate (80 - length p.done) space, eighty_in_all))
 
   module _ (h : i < 8) where
     abbrev value : ℤ
     value = get_or words (8 * row + i) (pos 0)
 
-    narrow-word : too_wide (get_or widths i 0) value ≡ false
-    narrow-word = first_false (too_wide (get_or widths i 0) value) (any_too_wide (drop (suc i) widths) (drop (suc i) (row_words words row))) (sym (wide_from words row whole i h) ∙ p.narrow)
+    narrow_word : too_wide (get_or widths i 0) value ≡ false
+    narrow_word = first_false (too_wide (get_or widths i 0) value) (any_too_wide (drop (suc i) widths) (drop (suc i) (row_words words row))) (sym (wide_from words row whole i h) ∙ p.narrow)
 
-    pub value-short : length (signed_decimal value) < get_or widths i 0
-    value-short = blank_before (get_or widths i 0) value narrow-word
+    pub value_short : length (signed_decimal value) < get_or widths i 0
+    value_short = blank_before (get_or widths i 0) value narrow_word
 
     width_room : length p.done + get_or widths i 0 ≤ 80
     width_room =
         omega (
           arith,
-          eighty-in-all,
-          ap length (aligned-from words row whole i h),
+          eighty_in_all,
+          ap length (aligned_from words row whole i h),
           length-append (right_aligned (get_or widths i 0) value) (aligned (drop (suc i) widths) (drop (suc i) (row_words words row))),
-          length_right_aligned (get_or widths i 0) value narrow-word,
+          length_right_aligned (get_or widths i 0) value narrow_word,
         )
 
-    pub line-room : end + get_or widths i 0 ≤ at + 80
-    line-room = omega (arith, p.position, width_room)
+    pub line_room : end + get_or widths i 0 ≤ at + 80
+    line_room = omega (arith, p.position, width_room)
 
-    pub line-turn : {last : List ℕ} {first : ℕ} → at ≤ length blank → PutsBefore after (end + get_or widths i 0) (signed_decimal value) last first → LinePart blank at words row last (end + get_or widths i 0) (i + 1)
+    pub line_turn : {last : List ℕ} {first : ℕ} → at ≤ length blank → PutsBefore after (end + get_or widths i 0) (signed_decimal value) last first → LinePart blank at words row last (end + get_or widths i 0) (i + 1)
     unfolding right_aligned
-    line-turn fits w =
-        let l = length_right_aligned (get_or widths i 0) value narrow-word in
+    line_turn fits w =
+        let l = length_right_aligned (get_or widths i 0) value narrow_word in
         let k = length-append p.done (right_aligned (get_or widths i 0) value) in
         let n : 80 - length (p.done ++ right_aligned (get_or widths i 0) value) ≡ 80 - length p.done - get_or widths i 0 = omega (arith, l, k) in
         record {
           done = p.done ++ right_aligned (get_or widths i 0) value;
-          rest = rw add-one (rw append_assoc (rw (aligned-from words row whole i h) at p.rest));
+          rest = rw add-one (rw append_assoc (rw (aligned_from words row whole i h) at p.rest));
           narrow = rw add-one (second_false (too_wide (get_or widths i 0) value) (any_too_wide (drop (suc i) widths) (drop (suc i) (row_words words row))) (sym (wide_from words row whole i h) ∙ p.narrow));
           position = omega (arith, p.position, l, k);
           bytes =
               w.bytes ∙ rw (p.bytes, n)
-              (put_among_blanks blank at p.done (get_or widths i 0) (80 - length p.done) _ (signed_decimal value) fits (omega (arith, value-short)) (omega (arith, width_room)) (omega (arith, w.position, p.position)));
+              (put_among_blanks blank at p.done (get_or widths i 0) (80 - length p.done) _ (signed_decimal value) fits (omega (arith, value_short)) (omega (arith, width_room)) (omega (arith, w.position, p.position)));
         }
 
   module _ (k : i ≡ 8) where
-    whole-line : p.done ≡ aligned widths (row_words words row)
+    whole_line : p.done ≡ aligned widths (row_words words row)
     unfolding aligned
-    whole-line = sym (append-nil p.done) ∙ rw k at p.rest
+    whole_line = sym (append-nil p.done) ∙ rw k at p.rest
 
     full : length p.done ≡ 80
-    full = omega (arith, ap length whole-line, eighty-characters words row whole e)
+    full = omega (arith, ap length whole_line, eighty_characters words row whole e)
 
-    pub line-full : end ≡ at + 80
-    line-full = omega (arith, p.position, full)
+    pub line_full : end ≡ at + 80
+    line_full = omega (arith, p.position, full)
 
     -- the line, in the slice that the blanks were written into
-    pub line-ended : {before : List ℕ} {next : ℕ} → at + 81 ≤ length before → length blank ≡ length before → Writes before at (replicate 80 space) blank next → Writes before at (page_line (row_words words row)) (set after end line_feed) (end + 1)
+    pub line_ended : {before : List ℕ} {next : ℕ} → at + 81 ≤ length before → length blank ≡ length before → Writes before at (replicate 80 space) blank next → Writes before at (page_line (row_words words row)) (set after end line_feed) (end + 1)
     unfolding page_line
-    line-ended {before} fits same w =
+    line_ended {before} fits same w =
         let n : 80 - length p.done ≡ 0 = omega (arith, full) in
-        let over = written_over before at (replicate 80 space) (aligned widths (row_words words row)) (omega arith) (omega (arith, full, ap length whole-line, length-replicate 80 space)) in
+        let over = written_over before at (replicate 80 space) (aligned widths (row_words words row)) (omega arith) (omega (arith, full, ap length whole_line, length-replicate 80 space)) in
         let line : Writes before at (aligned widths (row_words words row)) after end =
-        record { position = p.position ∙ rw whole-line; bytes = p.bytes ∙ rw (n, append-nil, whole-line, w.bytes) over } in
-        then (omega arith) line (byte after end line_feed (omega (arith, line-full, line-length (omega arith))))
+        record { position = p.position ∙ rw whole_line; bytes = p.bytes ∙ rw (n, append-nil, whole_line, w.bytes) over } in
+        then (omega arith) line (byte after end line_feed (omega (arith, line_full, line_length (omega arith))))

@@ -19,7 +19,7 @@ use Rattle.printing.specs.Page.{widths, right_aligned, aligned, row_characters, 
 use Rattle.printing.specs.Answers.{too_wide, any_too_wide, page_too_wide, page_of, bytes_after}
 use Rattle.printing.specs.Reading.{value_of, values_of, line_at, words_at}
 use Rattle.printing.proofs.Values.{length_right_aligned}
-use Rattle.printing.proofs.LineSteps.{first_false, second_false, eight_words, eighty-characters, length_line}
+use Rattle.printing.proofs.LineSteps.{first_false, second_false, eight_words, eighty_characters, length_line}
 use Rattle.printing.proofs.Scan.{narrow_before, narrow_row}
 use Rattle.printing.proofs.Lengths.{length_feed, page_length_lem}
 use Rattle.printing.proofs.Answered.{whole_page, printed_bytes}
@@ -107,31 +107,31 @@ module _ (words : List ℤ) (n : ℕ) (enough : 8 * n ≤ length words) (e : pag
   whole : 8 * i + 8 ≤ length words
   whole = omega arith
 
-  before-line : length (page_text words i ++ feed_after i) ≡ line_at i
-  before-line =
+  before_line : length (page_text words i ++ feed_after i) ≡ line_at i
+  before_line =
       omega (arith, length-append (page_text words i) (feed_after i), length_feed i, page_length_lem words i (omega arith) (narrow_before words i n (omega arith) e))
 
   -- the page and any bytes after it, from line i on
-  from-line : drop (line_at i) (page_text words n ++ after) ≡ page_line (row_words words i) ++ ((split words n i h).rest ++ after)
-  from-line =
+  from_line : drop (line_at i) (page_text words n ++ after) ≡ page_line (row_words words i) ++ ((split words n i h).rest ++ after)
+  from_line =
       let s = split words n i h in
       let front = page_text words i ++ feed_after i in
       let line = page_line (row_words words i) in
-      rw (s.is, append_assoc front (line ++ s.rest) after, append_assoc line s.rest after) (drop_at front (line ++ (s.rest ++ after)) (line_at i) before-line)
+      rw (s.is, append_assoc front (line ++ s.rest) after, append_assoc line s.rest after) (drop_at front (line ++ (s.rest ++ after)) (line_at i) before_line)
 
   -- line i stands at its place: its characters, 80 of them, then the line feed
-  pub line-stands : take 81 (drop (line_at i) (page_text words n ++ after)) ≡ row_characters (row_words words i) ++ line_feed ∷ []
+  pub line_stands : take 81 (drop (line_at i) (page_text words n ++ after)) ≡ row_characters (row_words words i) ++ line_feed ∷ []
   unfolding page_line
-  line-stands = rw from-line (take_at (page_line (row_words words i)) ((split words n i h).rest ++ after) 81 (length_line words i whole narrow))
+  line_stands = rw from_line (take_at (page_line (row_words words i)) ((split words n i h).rest ++ after) 81 (length_line words i whole narrow))
 
-  pub line-eighty : length (row_characters (row_words words i)) ≡ 80
-  line-eighty = eighty-characters words i whole narrow
+  pub line_eighty : length (row_characters (row_words words i)) ≡ 80
+  line_eighty = eighty_characters words i whole narrow
 
   -- and gives the words again
   pub line_read : words_at (page_text words n ++ after) i ≡ row_words words i
   unfolding words_at page_line
   line_read =
-      rw (from-line, append_assoc)
+      rw (from_line, append_assoc)
       (values_read widths (row_words words i) (line_feed ∷ [] ++ ((split words n i h).rest ++ after)) (sym (eight_words words i whole)) narrow)
 
 -- in the slice that the call left, whatever was there before

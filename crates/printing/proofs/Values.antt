@@ -54,8 +54,8 @@ negative_test k n =
     (λ l. narrow (suc (suc (suc k))) (negsuc n) (omega (arith, length_below k (suc n) l)))
 
 module _ (width : ℕ) (h : 3 ≤ width) (z : ℤ) where
-  above-two : suc (suc (suc (width - 3))) ≡ width
-  above-two = omega arith
+  above_two : suc (suc (suc (width - 3))) ≡ width
+  above_two = omega arith
 
   power : 10 ^ suc (width - 3) ≡ 10 ^ (width - 2)
   power = ap (λ (k : ℕ). 10 ^ k) (omega arith)
@@ -65,13 +65,13 @@ module _ (width : ℕ) (h : 3 ≤ width) (z : ℤ) where
     where
       by : (z : ℤ) → lt_z z (pos 0) ≡ true → leb (10 ^ (width - 2)) (nat_abs z) ≡ too_wide width z
       by (pos n) t = absurd (omega (arith, ltb-true n 0 t))
-      by (negsuc n) t = rw (power, above-two) at (negative_test (width - 3) n)
+      by (negsuc n) t = rw (power, above_two) at (negative_test (width - 3) n)
 
-  pub test-from : lt_z z (pos 0) ≡ false → leb (10 * 10 ^ (width - 2)) (nat_abs z) ≡ too_wide width z
-  test-from t = by z t
+  pub test_from : lt_z z (pos 0) ≡ false → leb (10 * 10 ^ (width - 2)) (nat_abs z) ≡ too_wide width z
+  test_from t = by z t
     where
       by : (z : ℤ) → lt_z z (pos 0) ≡ false → leb (10 * 10 ^ (width - 2)) (nat_abs z) ≡ too_wide width z
-      by (pos n) t = rw (power, above-two) at (natural_test (width - 3) n)
+      by (pos n) t = rw (power, above_two) at (natural_test (width - 3) n)
       by (negsuc n) t = absurd (true≢false t)
 
 -- a blank stands before a value that is not too wide

@@ -1,4 +1,6 @@
 // The call `page`: rows of results as the lines of a printed page, written into a lent slice. It has no `requires`. 02, No. 3.
+#![tactic(auto)]
+
 ghost use Rattle.std.specs.Prelude.{◌≡◌, false, ◌+◌, ◌-◌, ◌*◌, ◌^◌, ◌≤◌, ◌<◌, leb, length, get_or, replicate};
 ghost use Rattle.text.specs.Lines.{space, row_words};
 ghost use Rattle.slices.specs.Written.{Writes};
@@ -6,7 +8,7 @@ ghost use Rattle.printing.specs.Page.{widths, page_line, feed_after, page_text, 
 ghost use Rattle.printing.specs.Answers.{too_wide, any_too_wide, page_too_wide, page_answer, page_of, bytes_after};
 
 // The answer of page. `page_answer` gives 02's number, offset, rows and length of each case.
-#[derive(Drop)]
+#[derive(Clone, Copy)]
 pub enum Printed {
     // The length of the page.
     Bytes(usize),

@@ -1,5 +1,7 @@
 // The quantities of a job, each a type of its own with its greatest value and its range checks, and the ranges of the factors.
 // 01, "Quantities" and "Job commands"; form: "associated constants and range checks of the force, moment and length types".
+#![tactic(auto)]
+
 ghost use Rattle.std.specs.Prelude.{◌≡◌, nat_abs};
 ghost use Rattle.quantity.specs.Range.{within, within_signed};
 ghost use Rattle.quantity.specs.Quantities.{force_limit, moment_limit, force, moment, member_length, wall_length, side, behaviour, overstrength};

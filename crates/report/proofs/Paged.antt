@@ -11,7 +11,7 @@ use Rattle.slices.specs.Written.{written, WritesAtMost}
 use Rattle.printing.specs.Page.{page_text}
 use Rattle.printing.specs.Answers.{PageAnswer, page_too_wide, page_of, bytes_after}
 use Rattle.printing.proofs.Lengths.{page_length_lem}
-use Rattle.printing.proofs.Answered.{page-answer}
+use Rattle.printing.proofs.Answered.{page_answer_lem}
 
 pub paged : (words : List ℤ) (n : ℕ) (before after : List ℕ) (answer : PageAnswer) → 8 * n ≤ length words → page_too_wide words n ≡ false →
     168 * n + 82 ≤ length before → answer ≡ page_of words n (length before) → after ≡ bytes_after words n before →
@@ -19,7 +19,7 @@ pub paged : (words : List ℤ) (n : ℕ) (before after : List ℕ) (answer : Pag
 unfolding written bytes_after
 paged words n before after answer h e room a b =
     let l = page_length_lem words n h e in
-    let p = page-answer words n (length before) h e (omega arith) in
+    let p = page_answer_lem words n (length before) h e (omega arith) in
     let r = ap (λ (x : PageAnswer). x.bytes) (a ∙ p) in
     record {
       writes = record { position = r ∙ sym (zero-add (length (page_text words n))); bytes = b ∙ rw (p, zero-add) };

@@ -4,7 +4,7 @@ use Rattle.std.specs.Prelude.{◌≡◌, List, ℕ, ℤ}
 use Rattle.text.specs.Lines.{listing_text}
 use Rattle.totals.specs.declared.Totals.{Totals}
 use Rattle.totals.specs.Rows.{rows_failed, checks_failed}
-use Rattle.report.specs.Printed.{printedOf}
+use Rattle.report.specs.Printed.{printed_of}
 
 -- n rows and their totals
 unfoldable pub rows_listing : List ℤ → ℕ → List ℕ
@@ -16,4 +16,4 @@ pub record TotalsOf (words : List ℤ) (t : Totals) : Type 0 where
   pub checks : t.checks ≡ checks_failed words t.rows
 
 unfoldable pub listing_of : List ℕ → List ℕ
-listing_of job = printedOf rows_listing job
+listing_of job = printed_of rows_listing job

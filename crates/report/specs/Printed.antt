@@ -14,13 +14,13 @@ most_rows = 1024
 
 module _ (rows_text : List ℤ → ℕ → List ℕ) where
   -- refusal 9 prints the rows needed
-  abbrev pub acceptedText : List (List ℤ) → List ℕ
-  acceptedText rows = cond (leb (length rows) most_rows) (rows_text (joined rows) (length rows)) (refused_line 9 (length rows))
+  abbrev pub accepted_text : List (List ℤ) → List ℕ
+  accepted_text rows = cond (leb (length rows) most_rows) (rows_text (joined rows) (length rows)) (refused_line 9 (length rows))
 
-  abbrev pub jobText : Job → List ℕ
-  jobText (refused number offset) = refused_line number offset
-  jobText (accepted ps) = acceptedText (all_rows ps)
+  abbrev pub job_text : Job → List ℕ
+  job_text (refused number offset) = refused_line number offset
+  job_text (accepted ps) = accepted_text (all_rows ps)
 
   -- refusal 10, input above 65,536 bytes, prints 0
-  unfoldable pub printedOf : List ℕ → List ℕ
-  printedOf job = cond (ltb most_bytes (length job)) (refused_line 10 0) (jobText (placed job))
+  unfoldable pub printed_of : List ℕ → List ℕ
+  printed_of job = cond (ltb most_bytes (length job)) (refused_line 10 0) (job_text (placed job))

@@ -1,10 +1,12 @@
 // What the programs print of a job, written into a lent slice: its listing or its page. 01, "Figures to hold to"; 02, No. 3.
+#![tactic(auto)]
+
 ghost use Rattle.std.specs.Prelude.{◌≡◌, false, ◌+◌, ◌*◌, ◌≤◌, length};
 ghost use Rattle.slices.specs.Written.{WritesAtMost};
 ghost use Rattle.job.specs.Placed.{placed};
 ghost use Rattle.printing.specs.Page.{page_text};
 ghost use Rattle.printing.specs.Answers.{page_answer, page_too_wide};
-ghost use Rattle.report.specs.Printed.{jobText, printedOf};
+ghost use Rattle.report.specs.Printed.{job_text, printed_of};
 ghost use Rattle.report.specs.Listing.{rows_listing, listing_of, TotalsOf};
 ghost use Rattle.report.specs.Page.{rows_text};
 
@@ -64,7 +66,7 @@ fn put_text(rows: &[i64], totals: Totals, paged: bool, out: &mut [u8]) -> usize
 // What is printed of a job whose bytes are few enough. The rows are lent; there is room for 1,024.
 fn put_job(job: &[u8], rows: &mut [i64; 8192], paged: bool, out: &mut [u8]) -> usize
     requires { 172114 ≤ length out.old }
-    ensures { WritesAtMost 172114 out.old 0 (jobText (rows_text paged) (placed job.now)) out.new result }
+    ensures { WritesAtMost 172114 out.old 0 (job_text (rows_text paged) (placed job.now)) out.new result }
 {
     let ran = capacity::run(job, rows);
     match ran {
@@ -77,7 +79,7 @@ fn put_job(job: &[u8], rows: &mut [i64; 8192], paged: bool, out: &mut [u8]) -> u
 // What is printed of a job, from the start of the slice; answers its length.
 pub fn printed_text(job: &[u8], paged: bool, out: &mut [u8]) -> usize
     requires { 172114 ≤ length out.old }
-    ensures { WritesAtMost 172114 out.old 0 (printedOf (rows_text paged) job.now) out.new result }
+    ensures { WritesAtMost 172114 out.old 0 (printed_of (rows_text paged) job.now) out.new result }
 {
     if job.len() > MOST_BYTES {
         return text::put_refused(out, 0, 10, 0);

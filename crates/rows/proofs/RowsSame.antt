@@ -42,47 +42,47 @@ no_rows none = refl
 no_rows (some s) = refl
 
 module _ (room : Bool) (t : State) (table : JointTable) (h : Context) (s : Shows room t table h) where
-  settings-some : t.given ≡ true → h.settings ≡ some t.settings
-  settings-some g = s.settings ∙ rw g refl
+  settings_some : t.given ≡ true → h.settings ≡ some t.settings
+  settings_some g = s.settings ∙ rw g refl
 
   pub rows_same : room ≡ true → (c : Command) → IdsFit c → InPlace t c → absent h c ≡ false → rows_from (next_state room t c) (next_sums room table.sums c) c ≡ rows_of h c
   unfolding next_state next_sums rows_from rows_of rows_with absent with_wall
   rows_same r finish i p a = sym (no_rows h.settings)
   rows_same r (settings x) i p a = sym (no_rows h.settings)
-  rows_same r (joint id j) i p a = rw (settings-some p)
-  rows_same r (column c) i p a = rw (settings-some p)
-  rows_same r (beam b) i p a = rw (settings-some p)
+  rows_same r (joint id j) i p a = rw (settings_some p)
+  rows_same r (column c) i p a = rw (settings_some p)
+  rows_same r (beam b) i p a = rw (settings_some p)
   rows_same r (hingeless id1 id2 m) i p a =
       rw (
-        settings-some p,
+        settings_some p,
         present (joint_given table.given id1) (joint_held table.sums id1) (h.joints id1) (s.joints r id1 i.0) (or_first (missing (h.joints id1)) (missing (h.joints id2)) a),
         present (joint_given table.given id2) (joint_held table.sums id2) (h.joints id2) (s.joints r id2 i.1) (or_second (missing (h.joints id1)) (missing (h.joints id2)) a),
       )
-  rows_same r (wall_base b) i p a = rw (settings-some p, r) (ap (λ (row : Row). row ∷ []) (base_row_of t.settings.behaviour b))
+  rows_same r (wall_base b) i p a = rw (settings_some p, r) (ap (λ (row : Row). row ∷ []) (base_row_of t.settings.behaviour b))
   rows_same r (storey x) i p a = by t.walled (s.wall r)
     where
       by : (w : Bool) → WallShows w t.wall t.settings.behaviour h.wall →
           storey_row_from (fraction t.wall.coefficient) t.wall.shear t.wall.resistance x ∷ [] ≡ rows_of h (storey x)
-      by true (b, e, k) = rw (settings-some p, e, k) (ap (λ (row : Row). row ∷ []) (storey_row_of t.settings.behaviour b x))
+      by true (b, e, k) = rw (settings_some p, e, k) (ap (λ (row : Row). row ∷ []) (storey_row_of t.settings.behaviour b x))
       by false e = absurd (differ (sym (ap missing e) ∙ a))
-  rows_same r (soil x) i p a = rw (settings-some p)
-  rows_same r (footing f) i p a = rw (settings-some p, present t.founded (record { soil = t.soil; sensitive = t.sensitive }) h.ground s.ground a)
-  rows_same r (detail d) i p a = rw (settings-some p)
+  rows_same r (soil x) i p a = rw (settings_some p)
+  rows_same r (footing f) i p a = rw (settings_some p, present t.founded (record { soil = t.soil; sensitive = t.sensitive }) h.ground s.ground a)
+  rows_same r (detail d) i p a = rw (settings_some p)
 
   -- as many, with room or without
-  pub rows-as-many : (c : Command) → InPlace t c → absent h c ≡ false → length (rows_of h c) ≡ row_count c
+  pub rows_as_many : (c : Command) → InPlace t c → absent h c ≡ false → length (rows_of h c) ≡ row_count c
   unfolding rows_of rows_with absent row_count
-  rows-as-many finish p a = ap length (no_rows h.settings)
-  rows-as-many (settings x) p a = ap length (no_rows h.settings)
-  rows-as-many (joint id j) p a = rw (settings-some p)
-  rows-as-many (column c) p a = rw (settings-some p)
-  rows-as-many (beam b) p a = rw (settings-some p)
-  rows-as-many (hingeless id1 id2 m) p a =
-      rw (settings-some p)
+  rows_as_many finish p a = ap length (no_rows h.settings)
+  rows_as_many (settings x) p a = ap length (no_rows h.settings)
+  rows_as_many (joint id j) p a = rw (settings_some p)
+  rows_as_many (column c) p a = rw (settings_some p)
+  rows_as_many (beam b) p a = rw (settings_some p)
+  rows_as_many (hingeless id1 id2 m) p a =
+      rw (settings_some p)
       (as_long (h.joints id1) (or_first (missing (h.joints id1)) (missing (h.joints id2)) a) _ 1
       (λ i. as_long (h.joints id2) (or_second (missing (h.joints id1)) (missing (h.joints id2)) a) _ 1 (λ j. refl)))
-  rows-as-many (wall_base b) p a = rw (settings-some p)
-  rows-as-many (storey x) p a = rw (settings-some p) (as_long h.wall a _ 1 (λ b. refl))
-  rows-as-many (soil x) p a = rw (settings-some p)
-  rows-as-many (footing f) p a = rw (settings-some p) (as_long h.ground a _ 2 (λ g. refl))
-  rows-as-many (detail d) p a = rw (settings-some p)
+  rows_as_many (wall_base b) p a = rw (settings_some p)
+  rows_as_many (storey x) p a = rw (settings_some p) (as_long h.wall a _ 1 (λ b. refl))
+  rows_as_many (soil x) p a = rw (settings_some p)
+  rows_as_many (footing f) p a = rw (settings_some p) (as_long h.ground a _ 2 (λ g. refl))
+  rows_as_many (detail d) p a = rw (settings_some p)

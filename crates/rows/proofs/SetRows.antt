@@ -13,7 +13,7 @@ use Rattle.walls.specs.Storey.{storey_row_from}
 use Rattle.format.specs.declared.Command.TheVariants.{Storey as storey}
 use Rattle.format.specs.Commands.{in_range}
 use Rattle.blocks.specs.Sets.{storey_at, storeys_at, all_in_range}
-use Rattle.blocks.proofs.Sets.{each-in-range}
+use Rattle.blocks.proofs.Sets.{each_in_range}
 use Rattle.rows.specs.Rows.{words}
 use Rattle.rows.specs.Writing.{set_rows, stored, stored_all, SetsAsk}
 use Rattle.rows.proofs.Memory.{stored_keeps}
@@ -27,13 +27,13 @@ set_rows_count w at (s ∷ ss) = ap suc (set_rows_count w (at + 24) ss)
 
 pub record Filling (w : Wall) (job : List ℕ) (at count n : ℕ) (rows₀ rows : List ℤ) (left start next : ℕ) : Type 0 where
   pub same : stored_all rows₀ n (set_rows w at (storeys_at count job at)) ≡ stored_all rows next (set_rows w start (storeys_at left job start))
-  pub in_range_lem : all_in_range (storeys_at left job start) ≡ true
+  pub ranged : all_in_range (storeys_at left job start) ≡ true
   pub start_is : start + 24 * left ≡ at + 24 * count
   pub next_is : next + left ≡ n + count
   pub rows_kept : length rows ≡ length rows₀
 
 pub fill_begins : (w : Wall) (job : List ℕ) (at count n : ℕ) (rows : List ℤ) → SetsAsk w job at count → Filling w job at count n rows rows count at n
-fill_begins w job at count n rows a = record { same = refl; in_range_lem = a.in_range_lem; start_is = refl; next_is = refl; rows_kept = refl }
+fill_begins w job at count n rows a = record { same = refl; ranged = a.ranged; start_is = refl; next_is = refl; rows_kept = refl }
 
 module _ (w : Wall) (job : List ℕ) (at count n : ℕ) (rows₀ rows : List ℤ) (left start next : ℕ) (f : Filling w job at count n rows₀ rows left start next) where
   module _ (l : 0 < left) where
@@ -42,10 +42,10 @@ module _ (w : Wall) (job : List ℕ) (at count n : ℕ) (rows₀ rows : List ℤ
     split = let e : left ≡ suc (left - 1) = omega arith in ap (λ (k : ℕ). storeys_at k job start) e
 
     both : (in_range (storey (storey_at job start)) ≡ true) × (all_in_range (storeys_at (left - 1) job (start + 24)) ≡ true)
-    both = each-in-range (storey_at job start) (storeys_at (left - 1) job (start + 24)) (ap all_in_range (sym split) ∙ f.in_range_lem)
+    both = each_in_range (storey_at job start) (storeys_at (left - 1) job (start + 24)) (ap all_in_range (sym split) ∙ f.ranged)
 
-    pub set-ranged : in_range (storey (storey_at job start)) ≡ true
-    set-ranged = both.0
+    pub set_ranged : in_range (storey (storey_at job start)) ≡ true
+    set_ranged = both.0
 
     abbrev row : List ℤ
     row = words start 7 (storey_row_from (fraction w.coefficient) w.shear w.resistance (storey_at job start))
@@ -55,14 +55,14 @@ module _ (w : Wall) (job : List ℕ) (at count n : ℕ) (rows₀ rows : List ℤ
     on =
         record {
           same = f.same ∙ ap (λ (ss : List Storey). stored_all rows next (set_rows w start ss)) split;
-          in_range_lem = both.1;
+          ranged = both.1;
           start_is = omega (arith, f.start_is);
           next_is = omega (arith, f.next_is);
           rows_kept = stored_keeps rows next row refl ∙ f.rows_kept;
         }
 
-    pub fills-on : (rows' : List ℤ) (next' : ℕ) → rows' ≡ stored rows next row → next' ≡ next + 1 → Filling w job at count n rows₀ rows' (left - 1) (start + 24) next'
-    fills-on rows' next' e₁ e₂ = rw (e₁, e₂) on
+    pub fills_on : (rows' : List ℤ) (next' : ℕ) → rows' ≡ stored rows next row → next' ≡ next + 1 → Filling w job at count n rows₀ rows' (left - 1) (start + 24) next'
+    fills_on rows' next' e₁ e₂ = rw (e₁, e₂) on
 
   pub filled : left ≤ 0 → (next ≡ n + count) × (rows ≡ stored_all rows₀ n (set_rows w at (storeys_at count job at)))
   unfolding set_rows stored_all storeys_at

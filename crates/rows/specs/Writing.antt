@@ -61,10 +61,10 @@ joined (r ∷ rs) = r ++ joined rs
 pub record EmitAsks (t : State) (room : Bool) (sums : List ℕ) (c : Command) : Type 0 where
   pub state : SoundState t
   pub joints : SoundSums room sums
-  pub in_range_lem : in_range c ≡ true
+  pub ranged : in_range c ≡ true
 
 -- for the rows of a block: so many sets that stand whole in the job, each in range
 pub record SetsAsk (w : Wall) (job : List ℕ) (at count : ℕ) : Type 0 where
   pub wall : WallRange w
   pub whole : at + 24 * count ≤ length job
-  pub in_range_lem : all_in_range (storeys_at count job at) ≡ true
+  pub ranged : all_in_range (storeys_at count job at) ≡ true

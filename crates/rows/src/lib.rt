@@ -1,4 +1,6 @@
 // The rows of a command, from its context as the code keeps it, written where there is room. 01, "Rows and verdict bits".
+#![tactic(auto)]
+
 ghost use Rattle.std.specs.Prelude.{◌≡◌, true, false, [], ◌∷◌, ◌++◌, map, ◌+◌, ◌^◌, ◌≤◌, ◌<◌, length, take, drop};
 ghost use Rattle.cubes.specs.Cube.{LentCubes};
 ghost use Rattle.members.specs.Beam.{beam_row};

@@ -137,13 +137,13 @@ field_of b x e h = clear_read b h ∙ ap (λ (y : ℕ). of_fields binary32 false
 pub over : (top b : ℕ) → top ≤ 1000 → 1149239296 ≤ b → allowed top (of_bits binary32 b) ≡ false
 over top b h l = go (leb 2147483648 b) refl
   where
-    clear-over : (x : ℕ) → b / 8388608 ≡ x → b < 2147483648 → allowed top (of_bits binary32 b) ≡ false
-    clear-over zero e c = absurd (omega arith)
-    clear-over (suc x) e c = ap (allowed top) (field_of b (suc x) e c) ∙ over_fields top x (b % 8388608) h (omega arith)
+    clear_over : (x : ℕ) → b / 8388608 ≡ x → b < 2147483648 → allowed top (of_bits binary32 b) ≡ false
+    clear_over zero e c = absurd (omega arith)
+    clear_over (suc x) e c = ap (allowed top) (field_of b (suc x) e c) ∙ over_fields top x (b % 8388608) h (omega arith)
 
     go : (p : Bool) → leb 2147483648 b ≡ p → allowed top (of_bits binary32 b) ≡ false
     go true e = sign_set top b (leb-true 2147483648 b e)
-    go false e = clear-over (b / 8388608) refl (leb-false 2147483648 b e)
+    go false e = clear_over (b / 8388608) refl (leb-false 2147483648 b e)
 
 -- a value of at most 1000 has a field of at most 136
 pub below : (b : ℕ) → T (allowed 1000 (of_bits binary32 b)) → b < 1149239296

@@ -1,5 +1,6 @@
 // The soil under a footing, and take-down of its value: the laboratory's binary32 compared with its
 // limits and taken by its bits to a whole number (01, "Soil and footing").
+#![tactic(auto)]
 
 ghost use Rattle.std.specs.Prelude.{ℕ, ◌≤◌, false, ◌≡◌, T};
 ghost use Rattle.std.specs.Float.{binary32};
@@ -22,21 +23,21 @@ const STRENGTH_FACTOR: u32 = 1_000;
 
 // A granular soil holds the tangent of its friction angle, a cohesive one its undrained strength in
 // kPa.
-#[derive(Drop)]
+#[derive(Clone, Copy)]
 pub enum Soil {
     Granular(f32),
     Cohesive(f32),
 }
 
 // What take-down answers. `answer_of` gives 01's number, offset and value of each case.
-#[derive(Drop)]
+#[derive(Clone, Copy)]
 pub enum TakeDown {
     Value(u32),
     OutOfRange,
 }
 
 // A soil read from its kind and the 32 bits of its value.
-#[derive(Drop)]
+#[derive(Clone, Copy)]
 pub enum SoilRead {
     Read(Soil),
     OutOfRange,
@@ -45,8 +46,8 @@ pub enum SoilRead {
 // The value of a bit pattern, at most 1000.0, times `factor`, taken down. The value is digits times
 // 2 to the power of field - 150; in a field below 87 it is below 2 to the power of -40.
 fn whole(bits: u32, factor: u32) -> u32
-    requires fact_1 { T (allowed 1000 (of_bits binary32 bits)) }
-    requires fact_2 { factor ≤ 10000 }
+    requires value { T (allowed 1000 (of_bits binary32 bits)) }
+    requires factor { factor ≤ 10000 }
     ensures { result ≡ cut factor (of_bits binary32 bits) }
 {
     let field = bits >> 23;
@@ -61,8 +62,8 @@ fn whole(bits: u32, factor: u32) -> u32
 // Take-down of `value` under the factor and the limit of its kind; `top` is the limit as a whole
 // number. A NaN is not at most the limit.
 fn take(value: f32, limit: f32, factor: u32) -> TakeDown
-    requires fact_1 { T (allowed 1000 limit) }
-    requires fact_2 { factor ≤ 10000 }
+    requires limit { T (allowed 1000 limit) }
+    requires factor { factor ≤ 10000 }
     ensures { (top : ℕ) → HasValue limit false top 1 → answer_of result ≡ taken top factor value }
 {
     if value <= limit {

@@ -32,8 +32,8 @@ module _ {before : List ℕ} {at value : ℕ} {after : List ℕ} {last rest : �
   pub same_length : length after ≡ length before
   same_length = ap length p.bytes ∙ length_written before (last + 1) p.done within
 
-  pub in-slice : last < length after
-  in-slice = omega (arith, same_length, within)
+  pub in_slice : last < length after
+  in_slice = omega (arith, same_length, within)
 
   stored : (b : ℕ) → set after last b ≡ written before last (b ∷ p.done)
   stored b = rw p.bytes (written_before before last b p.done (omega (arith, within)))

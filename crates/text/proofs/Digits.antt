@@ -90,12 +90,12 @@ pub length_from : (k n : ℕ) → 10 ^ k ≤ n → suc k ≤ length (decimal n)
 length_from zero n h = some_digit n
 length_from (suc k) n h =
     let p : 10 ^ k * 10 ≤ n = rw (pow-suc 10 k) at h in
-    let l : 10 ≤ n = omega (arith, pos-pow k) in
+    let l : 10 ≤ n = omega (arith, pos_pow k) in
     omega (arith, length_more n l, length_from k (n / 10) (omega arith))
   where
-    pos-pow : (k : ℕ) → 1 ≤ 10 ^ k
-    pos-pow zero = omega arith
-    pos-pow (suc k) = rw (pow-suc 10 k) (omega (arith, pos-pow k))
+    pos_pow : (k : ℕ) → 1 ≤ 10 ^ k
+    pos_pow zero = omega arith
+    pos_pow (suc k) = rw (pow-suc 10 k) (omega (arith, pos_pow k))
 
 -- a u64 has at most 20 digits
 pub length_decimal : (n : ℕ) → n < 2 ^ 64 → length (decimal n) ≤ 20

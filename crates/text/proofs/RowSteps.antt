@@ -52,8 +52,8 @@ row_begun before at words row =
     }
 
 module _ (words : List ℤ) (row : ℕ) (whole : 8 * row + 8 ≤ length words) where
-  length-parts : length (parts words row) ≡ 8
-  length-parts =
+  length_parts : length (parts words row) ≡ 8
+  length_parts =
       length-map (row_words words row) signed_decimal ∙ length-take-le 8 (drop (8 * row) words) (rw length-drop (omega arith))
 
   part : (i : ℕ) → i < 8 → get_or (parts words row) i (signed_decimal (pos 0)) ≡ signed_decimal (get_or words (8 * row + i) (pos 0))
@@ -61,11 +61,11 @@ module _ (words : List ℤ) (row : ℕ) (whole : 8 * row + 8 ≤ length words) w
       get_or-map signed_decimal (row_words words row) i (pos 0) ∙ rw (get_or-take 8 (drop (8 * row) words) i (pos 0) h, get_or-drop)
 
   module _ {before : List ℕ} {at : ℕ} {after : List ℕ} {next : ℕ} (fits : at ≤ length before) where
-    pub row-turn : {i : ℕ} {last : List ℕ} {end : ℕ} → i < 7 → RowPart before at words row after next i → WritesAtMost 21 after next (signed_decimal (get_or words (8 * row + i) (pos 0)) ++ space ∷ []) last end → RowPart before at words row last end (i + 1)
-    row-turn {i} {last} {end} h p w =
+    pub row_turn : {i : ℕ} {last : List ℕ} {end : ℕ} → i < 7 → RowPart before at words row after next i → WritesAtMost 21 after next (signed_decimal (get_or words (8 * row + i) (pos 0)) ++ space ∷ []) last end → RowPart before at words row last end (i + 1)
+    row_turn {i} {last} {end} h p w =
         let word = signed_decimal (get_or words (8 * row + i) (pos 0)) in
         let e : line (drop i (parts words row)) ≡ word ++ space ∷ line (drop (suc i) (parts words row)) =
-        rw (← part i (omega arith)) (line_more (parts words row) i (signed_decimal (pos 0)) (omega (arith, length-parts))) in
+        rw (← part i (omega arith)) (line_more (parts words row) i (signed_decimal (pos 0)) (omega (arith, length_parts))) in
         record {
           done = p.done ++ (word ++ space ∷ []);
           rest = rw add-one (simp append_assoc (rw e at p.rest));
@@ -73,11 +73,11 @@ module _ (words : List ℤ) (row : ℕ) (whole : 8 * row + 8 ≤ length words) w
           short = omega (arith, p.short, w.short);
         }
 
-    pub row-ended : {last : List ℕ} {end : ℕ} → RowPart before at words row after next 7 → WritesAtMost 21 after next (signed_decimal (get_or words (8 * row + 7) (pos 0)) ++ line_feed ∷ []) last end → WritesAtMost 168 before at (row_line (row_words words row)) last end
-    row-ended {last} {end} p w =
+    pub row_ended : {last : List ℕ} {end : ℕ} → RowPart before at words row after next 7 → WritesAtMost 21 after next (signed_decimal (get_or words (8 * row + 7) (pos 0)) ++ line_feed ∷ []) last end → WritesAtMost 168 before at (row_line (row_words words row)) last end
+    row_ended {last} {end} p w =
         let word = signed_decimal (get_or words (8 * row + 7) (pos 0)) in
         let e : line (drop 7 (parts words row)) ≡ word ++ line_feed ∷ [] =
-        rw (← part 7 (omega arith)) (line_last (parts words row) 7 (signed_decimal (pos 0)) length-parts) in
+        rw (← part 7 (omega arith)) (line_last (parts words row) 7 (signed_decimal (pos 0)) length_parts) in
         record {
           writes = rw (← (rw e at p.rest)) (then fits p.writes w.writes);
           short = omega (arith, p.short, w.short);

@@ -1,5 +1,7 @@
 // The text of the listing program, written into a lent slice: numbers in decimal, and the lines of rows, totals and refusals.
 // 01, "Figures to hold to". Each call writes from a position on and answers the position after its text.
+#![tactic(auto)]
+
 ghost use Rattle.std.specs.Prelude.{◌≡◌, [], ◌∷◌, ◌++◌, ◌+◌, ◌*◌, ◌<◌, ◌≤◌, length};
 ghost use Rattle.text.specs.Decimal.{digit, decimal, signed_decimal};
 ghost use Rattle.text.specs.Lines.{row_line, row_words, rows_text, totals_line, refused_line, listing_text};

@@ -16,27 +16,27 @@ module _ (rows : List ℤ) (n : ℕ) where
   -- the rows before `row` are counted
   pub record Counting (row failed checks : ℕ) : Type 0 where
     pub within : row ≤ n
-    pub failed-so-far : failed ≡ rows_failed rows row
-    pub checks-so-far : checks ≡ checks_failed rows row
-    pub at-most-eight : checks ≤ 8 * row
+    pub failed_so_far : failed ≡ rows_failed rows row
+    pub checks_so_far : checks ≡ checks_failed rows row
+    pub at_most_eight : checks ≤ 8 * row
 
   pub begun : Counting 0 0 0
   unfolding verdict_sum rows_failed checks_failed
-  begun = record { within = zero-le; failed-so-far = refl; checks-so-far = refl; at-most-eight = zero-le }
+  begun = record { within = zero-le; failed_so_far = refl; checks_so_far = refl; at_most_eight = zero-le }
 
   module _ {row failed checks : ℕ} (h : Counting row failed checks) where
-    pub failed-le : failed ≤ row
-    failed-le = omega (arith, h.failed-so-far, rows_failed_le rows row)
+    pub failed_le : failed ≤ row
+    failed_le = omega (arith, h.failed_so_far, rows_failed_le rows row)
 
     pub turn : row < n → good_verdict (verdict_at rows row) ≡ true → Counting (row + 1) (failed + row_failed (verdict_at rows row)) (checks + checks_of (verdict_at rows row))
     unfolding verdict_sum rows_failed checks_failed
     turn l good =
         record {
           within = omega arith;
-          failed-so-far = rw (add-one row) (ap (λ (k : ℕ). k + row_failed (verdict_at rows row)) h.failed-so-far);
-          checks-so-far = rw (add-one row) (ap (λ (k : ℕ). k + checks_of (verdict_at rows row)) h.checks-so-far);
-          at-most-eight = omega (arith, h.at-most-eight, checks_le (verdict_at rows row) good);
+          failed_so_far = rw (add-one row) (ap (λ (k : ℕ). k + row_failed (verdict_at rows row)) h.failed_so_far);
+          checks_so_far = rw (add-one row) (ap (λ (k : ℕ). k + checks_of (verdict_at rows row)) h.checks_so_far);
+          at_most_eight = omega (arith, h.at_most_eight, checks_le (verdict_at rows row) good);
         }
 
     pub ended : n ≤ row → record { rows = n; failed = failed; checks = checks } ≡ counted_in rows n
-    ended end = let r : row ≡ n = le_antisymm h.within end in rw (h.failed-so-far, h.checks-so-far, r)
+    ended end = let r : row ≡ n = le_antisymm h.within end in rw (h.failed_so_far, h.checks_so_far, r)

@@ -14,10 +14,10 @@ unfolding verdict_at
 front_verdict front more i h = get_or-append front more (pos 0) (8 * i + 7) (omega arith)
 
 module _ (front more : List ℤ) (n : ℕ) (h : 8 * n ≤ length front) where
-  pub front-failed : rows_failed (front ++ more) n ≡ rows_failed front n
+  pub front_failed : rows_failed (front ++ more) n ≡ rows_failed front n
   unfolding rows_failed
-  front-failed = sum_same row_failed (front ++ more) front n (λ i l. front_verdict front more i (omega arith))
+  front_failed = sum_same row_failed (front ++ more) front n (λ i l. front_verdict front more i (omega arith))
 
-  pub front-checks : checks_failed (front ++ more) n ≡ checks_failed front n
+  pub front_checks : checks_failed (front ++ more) n ≡ checks_failed front n
   unfolding checks_failed
-  front-checks = sum_same checks_of (front ++ more) front n (λ i l. front_verdict front more i (omega arith))
+  front_checks = sum_same checks_of (front ++ more) front n (λ i l. front_verdict front more i (omega arith))

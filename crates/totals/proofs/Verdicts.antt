@@ -11,6 +11,8 @@ use lib.Count.{ones_in, ones, ones-le, ones_step}
 use lib.Dec.{T}
 use lib.IntN.{ℤ, pos, negsuc, nat_abs}
 use lib.Signed.{non_neg}
+use mir.Syntax.{w64}
+use mir.Val.{SFits}
 use Rattle.totals.specs.Rows.{good_verdict, row_failed, checks_of}
 
 -- ---- the range
@@ -28,6 +30,11 @@ pub good_below : (v : ℤ) → good_verdict v ≡ true → nat_abs v < 256
 unfolding good_verdict
 good_below (pos v) e = omega (arith, leb-true v 255 e)
 good_below (negsuc v) e = absurd (true≢false (sym e))
+
+pub good_fits : (v : ℤ) → good_verdict v ≡ true → SFits w64 v
+unfolding good_verdict
+good_fits (pos v) e = record { sfits = omega (arith, leb-true v 255 e) }
+good_fits (negsuc v) e = absurd (true≢false (sym e))
 
 -- ---- the row
 

@@ -1,10 +1,12 @@
 // The totals of rows: how many they are, the rows failed and the checks failed. 01, "Calls"; 02, No. 8.
+#![tactic(auto)]
+
 ghost use Rattle.std.specs.Prelude.{true, ◌≡◌, ◌*◌, ◌≤◌, length};
 ghost use Rattle.totals.specs.Rows.{good_verdict, row_failed, checks_of};
 ghost use Rattle.totals.specs.Counted.{counted_in, GoodRows};
 
 // Rows; of these the rows failed; and their checks failed.
-#[derive(Drop)]
+#[derive(Clone, Copy)]
 pub struct Totals {
     pub rows: usize,
     pub failed: u64,

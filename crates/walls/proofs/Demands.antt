@@ -16,7 +16,7 @@ use Rattle.cubes.proofs.Roots.{least_positive}
 use Rattle.claims.specs.Exact.{Exact, value, root_third, larger_of, smaller_of, at_least}
 use Rattle.claims.proofs.Orders.{at_least_mono, ≤_or}
 use Rattle.claims.proofs.Rounded.{up_not_below, up_excess}
-use Rattle.walls.proofs.Roots.{root-not-below, root-excess}
+use Rattle.walls.proofs.Roots.{root_not_below, root_excess}
 
 lt_le : {a b : ℕ} → a < b → a ≤ b
 lt_le h = omega arith
@@ -63,11 +63,11 @@ third_of_thousand n =
 -- ---- the larger of x and c·w/3
 
 module _ (j j0 k : ℕ) (x w : Fraction) (e t : ℕ) (least : Least j j0 k) (px : Proper x) (pw : Proper w) (third : Third k w e t) where
-  pub larger-not-below : at_least (larger_of (value (signed x)) (root_third j j0 w)) (whole_s (pos (max (up_f x) t)))
-  larger-not-below =
+  pub larger_not_below : at_least (larger_of (value (signed x)) (root_third j j0 w)) (whole_s (pos (max (up_f x) t)))
+  larger_not_below =
       let m = max (up_f x) t in (
         at_least_mono (value (signed x)) (whole_s (pos (up_f x))) (whole_s (pos m)) (omega arith) (omega (arith, le-max_left (up_f x) t)) (up_not_below x px),
-        root-not-below j j0 k w least m (omega (arith, third.low, le-max_right (up_f x) t · (3000 * w.den))),
+        root_not_below j j0 k w least m (omega (arith, third.low, le-max_right (up_f x) t · (3000 * w.den))),
       )
 
   -- the value less the amount
@@ -79,8 +79,8 @@ module _ (j j0 k : ℕ) (x w : Fraction) (e t : ℕ) (least : Least j j0 k) (px 
   under_first v one h = omega (arith, h · w.den, one · w.den)
 
   -- where the root governs: at most (k − 1)·w/3000
-  under-second : (v : ℕ) → 1 ≤ k → v ≤ t → lowered v ≤S signed (ratio ((k - 1) * w.num) (3000 * w.den))
-  under-second v one h =
+  under_second : (v : ℕ) → 1 ≤ k → v ≤ t → lowered v ≤S signed (ratio ((k - 1) * w.num) (3000 * w.den))
+  under_second v one h =
       omega (arith, numbers (k - 1) w.num w.den v e (omega (arith, h · (3000 * w.den), third.high, mul-le-mul_right w.num (before k one))))
     where
       before : (k : ℕ) → 1 ≤ k → k ≤ (k - 1) + 1
@@ -89,8 +89,8 @@ module _ (j j0 k : ℕ) (x w : Fraction) (e t : ℕ) (least : Least j j0 k) (px 
       numbers : (i n d v e : ℕ) → 3000 * v * d ≤ (i + 1) * n + 3000 * e * d → v * (d * 3000) * (3000 * d) ≤ i * n * (d * 3000) + (n + e * (d * 3000)) * (3000 * d)
       numbers i n d v e h = omega (arith, h · (3000 * d))
 
-  pub larger-excess : (v : ℕ) → 1 ≤ j → 1 ≤ e → v ≤ max (up_f x) t → ¬ at_least (larger_of (value (signed x)) (root_third j j0 w)) (lowered v)
-  larger-excess v one some h (a, b) = by (≤_or t (up_f x))
+  pub larger_excess : (v : ℕ) → 1 ≤ j → 1 ≤ e → v ≤ max (up_f x) t → ¬ at_least (larger_of (value (signed x)) (root_third j j0 w)) (lowered v)
+  larger_excess v one some h (a, b) = by (≤_or t (up_f x))
     where
       proper : ProperS (lowered v)
       proper = omega (arith, pw)
@@ -100,22 +100,22 @@ module _ (j j0 k : ℕ) (x w : Fraction) (e t : ℕ) (least : Least j j0 k) (px 
           up_excess x px
           (at_least_mono (value (signed x)) (lowered v) (whole_s (pos (up_f x)) -S signed (whole 1)) proper (under_first v some (omega (arith, max-eq_left l))) a)
       by (inr l) =
-          root-excess j j0 k w least one (third.nonzero (omega arith)) pw
+          root_excess j j0 k w least one (third.nonzero (omega arith)) pw
           (at_least_mono (root_third j j0 w) (lowered v) (signed (ratio ((k - 1) * w.num) (3000 * w.den))) proper
-          (under-second v (least_positive one least) (omega (arith, max-eq_right (lt_le l)))) b)
+          (under_second v (least_positive one least) (omega (arith, max-eq_right (lt_le l)))) b)
 
 -- ---- the larger of two fractions, within 1
 
 module _ (x y : Fraction) (px : Proper x) (py : Proper y) where
-  pub two-not-below : at_least (larger_of (value (signed x)) (value (signed y))) (whole_s (pos (max (up_f x) (up_f y))))
-  two-not-below =
+  pub two_not_below : at_least (larger_of (value (signed x)) (value (signed y))) (whole_s (pos (max (up_f x) (up_f y))))
+  two_not_below =
       let m = max (up_f x) (up_f y) in (
         at_least_mono (value (signed x)) (whole_s (pos (up_f x))) (whole_s (pos m)) (omega arith) (omega (arith, le-max_left (up_f x) (up_f y))) (up_not_below x px),
         at_least_mono (value (signed y)) (whole_s (pos (up_f y))) (whole_s (pos m)) (omega arith) (omega (arith, le-max_right (up_f x) (up_f y))) (up_not_below y py),
       )
 
-  pub two-excess : (v : ℕ) → v ≤ max (up_f x) (up_f y) → ¬ at_least (larger_of (value (signed x)) (value (signed y))) (whole_s (pos v) -S signed (whole 1))
-  two-excess v h (a, b) = by (≤_or (up_f y) (up_f x))
+  pub two_excess : (v : ℕ) → v ≤ max (up_f x) (up_f y) → ¬ at_least (larger_of (value (signed x)) (value (signed y))) (whole_s (pos v) -S signed (whole 1))
+  two_excess v h (a, b) = by (≤_or (up_f y) (up_f x))
     where
       under : (z : Fraction) → Proper z → v ≤ up_f z → ¬ at_least (value (signed z)) (whole_s (pos v) -S signed (whole 1))
       under z p l k =

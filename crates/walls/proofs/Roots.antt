@@ -28,9 +28,9 @@ missed j j0 i n d l p q = omega (arith, l · (27 * (n * n * n) * (d * d * d)), p
 
 module _ (j j0 k : ℕ) (w : Fraction) (least : Least j j0 k) where
   -- v is at least k·w/3000
-  pub root-not-below : (v : ℕ) → k * w.num ≤ 3000 * v * w.den → at_least (root_third j j0 w) (whole_s (pos v))
-  root-not-below v h = omega (arith, reached j j0 k w.num w.den v least.enough h)
+  pub root_not_below : (v : ℕ) → k * w.num ≤ 3000 * v * w.den → at_least (root_third j j0 w) (whole_s (pos v))
+  root_not_below v h = omega (arith, reached j j0 k w.num w.den v least.enough h)
 
   -- (k − 1)·w/3000 is below
-  pub root-excess : 1 ≤ j → 0 < w.num → Proper w → ¬ at_least (root_third j j0 w) (signed (ratio ((k - 1) * w.num) (3000 * w.den)))
-  root-excess one n d h = omega (arith, missed j j0 (k - 1) w.num w.den (least_before one least) (pos_cube n) (pos_cube d))
+  pub root_excess : 1 ≤ j → 0 < w.num → Proper w → ¬ at_least (root_third j j0 w) (signed (ratio ((k - 1) * w.num) (3000 * w.den)))
+  root_excess one n d h = omega (arith, missed j j0 (k - 1) w.num w.den (least_before one least) (pos_cube n) (pos_cube d))

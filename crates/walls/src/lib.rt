@@ -1,5 +1,7 @@
 // Wall base (B.4) and storeys (B.5, B.6). The values that the storeys need of their base, a, W and MR, are computed once, at the
 // base, and kept.
+#![tactic(auto)]
+
 ghost use Rattle.std.specs.Prelude.{◌≡◌, ◌*◌, ◌^◌, ◌≤◌, ◌<◌};
 ghost use Rattle.exact.specs.Quotient.{up};
 ghost use Rattle.coefficient.specs.Coefficient.{fraction, ProductFits};
@@ -13,7 +15,7 @@ use claims::Row;
 use coefficient::Quotient;
 
 // Operands of a wall base: length, thickness, MR, ME, VE, VR.
-#[derive(Drop)]
+#[derive(Clone, Copy)]
 pub struct WallBase {
     pub length: u32,
     pub thickness: u32,
@@ -24,7 +26,7 @@ pub struct WallBase {
 }
 
 // Operands of a storey: ME, VE, J, J0, VR, MS.
-#[derive(Drop)]
+#[derive(Clone, Copy)]
 pub struct Storey {
     pub moment: u32,
     pub shear: u32,
@@ -36,7 +38,7 @@ pub struct Storey {
 
 // The running values of the latest wall: W, MR, a; and 1 where q governs a, else 0, for the base's own row. In this order and with this
 // width the struct has no gap.
-#[derive(Drop)]
+#[derive(Clone, Copy)]
 pub struct Wall {
     pub shear: u64,
     pub resistance: u32,
@@ -68,7 +70,7 @@ fn third_up(k: u64, x: u64) -> u64
     exact::ceil_div_unsigned(k * x, 3000)
 }
 
-// Larger of typeof.a.VE up and k·W/3000 up.
+// Larger of a·VE up and k·W/3000 up.
 fn design_shear(a: Quotient, k: u64, shear: u32, base: u64) -> u64
     requires product { ProductFits a shear }
     requires third { k * base < 2 ^ 64 }
@@ -77,7 +79,7 @@ fn design_shear(a: Quotient, k: u64, shear: u32, base: u64) -> u64
     exact::larger(coefficient::product_up(a, shear), third_up(k, base))
 }
 
-// Larger of typeof.a.ME up and k·MR/3000 up, at most MR.
+// Larger of a·ME up and k·MR/3000 up, at most MR.
 fn design_moment(a: Quotient, k: u64, moment: u32, resistance: u64) -> u64
     requires product { ProductFits a moment }
     requires third { k * resistance < 2 ^ 64 }

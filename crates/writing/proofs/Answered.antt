@@ -4,7 +4,7 @@ use mathlib.Core.Bool.{Bool, true, false, cond}
 use mathlib.Core.List.{List, ◌++◌}
 use mathlib.Core.Option.{Option, none, some}
 use mathlib.Core.Path.{◌≡◌, refl}
-use Prim.Native.Nat.{ℕ, suc, ◌+◌, ◌-◌, ◌≤◌, ◌<◌}
+use Prim.Native.Nat.{ℕ, suc, ◌+◌, ◌≤◌, ◌<◌}
 use native.Mathlib.Omega.{arith}
 use lib.ListN.{length, take, drop, length-append, length-drop}
 use lib.Seq.{take_at, drop_at}
@@ -12,9 +12,10 @@ use lib.Dec.{leb}
 use borrow.Author.Tests.{le-leb, lt-leb, leb-true}
 use Rattle.layout.specs.Forms.{width}
 use Rattle.layout.specs.Layouts.{forms_of, forms_in, width_of_all, operands_width}
+use Rattle.footing.specs.declared.Footing.{Footing}
 use Rattle.format.specs.declared.Command.{Command}
 use Rattle.format.specs.declared.Command.TheVariants.{Finish as finish, Settings as settings, Joint as joint, Column as column, Beam as beam, Hingeless as hingeless, WallBase as wall_base, Storey as storey, Soil as soil, Footing as footing, Detail as detail}
-use Rattle.format.specs.Commands.{byte_of, related, all_in_range as allIn, in_range}
+use Rattle.format.specs.Commands.{byte_of, related, all_in_range as all_in, in_range}
 use Rattle.format.proofs.RangeTest.{and_first}
 use Rattle.blocks.specs.Sets.{count_in_range, all_in_range}
 use Rattle.blocks.specs.FileCommands.{FileCommand, one, block, width_of}
@@ -59,7 +60,7 @@ bytes_most c = leb-true (length (bytes_of c)) 58 (most c)
 
 -- the end has no operand that could be out of range
 pub end_in_range : in_range finish ≡ true
-unfolding in_range allIn related forms_of forms_in
+unfolding in_range all_in related forms_of forms_in
 end_in_range = refl
 
 -- ---- the commands of a file
@@ -78,30 +79,39 @@ file_bytes_most (block ss) r =
 
 module _ (c : FileCommand) where
   module _ (r : file_in_range c ≡ false) where
-    pub answer-5 : (room : ℕ) → write_file_of c room ≡ refused_with 5
+    pub answer_5 : (room : ℕ) → write_file_of c room ≡ refused_with 5
     unfolding write_file_of
-    answer-5 room = rw r
+    answer_5 room = rw r
 
-    pub slice-5 : (before : List ℕ) → file_bytes_after c before ≡ before
+    pub slice_5 : (before : List ℕ) → file_bytes_after c before ≡ before
     unfolding file_bytes_after
-    slice-5 before = rw r
+    slice_5 before = rw r
 
   module _ (r : file_in_range c ≡ true) where
-    pub answer-11 : (room : ℕ) → room < length (file_bytes_of c) → write_file_of c room ≡ refused_with 11
+    pub answer_11 : (room : ℕ) → room < length (file_bytes_of c) → write_file_of c room ≡ refused_with 11
     unfolding write_file_of
-    answer-11 room h = rw (r, lt-leb (length (file_bytes_of c)) room h)
+    answer_11 room h = rw (r, lt-leb (length (file_bytes_of c)) room h)
 
-    pub slice-11 : (before : List ℕ) → length before < length (file_bytes_of c) → file_bytes_after c before ≡ before
+    pub slice_11 : (before : List ℕ) → length before < length (file_bytes_of c) → file_bytes_after c before ≡ before
     unfolding file_bytes_after
-    slice-11 before h = rw (r, lt-leb (length (file_bytes_of c)) (length before) h)
+    slice_11 before h = rw (r, lt-leb (length (file_bytes_of c)) (length before) h)
 
-    pub answer-written : (room : ℕ) → length (file_bytes_of c) ≤ room → write_file_of c room ≡ wrote (length (file_bytes_of c))
+    pub answer_written : (room : ℕ) → length (file_bytes_of c) ≤ room → write_file_of c room ≡ wrote (length (file_bytes_of c))
     unfolding write_file_of
-    answer-written room h = rw (r, le-leb (length (file_bytes_of c)) room h)
+    answer_written room h = rw (r, le-leb (length (file_bytes_of c)) room h)
 
     pub slice_written : (before : List ℕ) → length (file_bytes_of c) ≤ length before → file_bytes_after c before ≡ file_bytes_of c ++ drop (length (file_bytes_of c)) before
     unfolding file_bytes_after
     slice_written before h = rw (r, le-leb (length (file_bytes_of c)) (length before) h)
+
+-- a footing in range, on a slice that is shorter than its 58 bytes
+pub footing_answer : (f : Footing) (room : ℕ) → in_range (footing f) ≡ true → room < 58 → write_file_of (one (footing f)) room ≡ refused_with 11
+unfolding bytes_of operand_bytes big_endian width forms_of forms_in
+footing_answer f room r h = answer_11 (one (footing f)) r room h
+
+pub footing_slice : (f : Footing) (before : List ℕ) → in_range (footing f) ≡ true → length before < 58 → file_bytes_after (one (footing f)) before ≡ before
+unfolding bytes_of operand_bytes big_endian width forms_of forms_in
+footing_slice f before r h = slice_11 (one (footing f)) r before h
 
 -- ---- every write, accepted or refused
 
@@ -132,13 +142,13 @@ module _ (c : FileCommand) (before : List ℕ) where
   after = file_bytes_after c before
 
   -- the bytes behind those reported stay, and so does their number
-  pub later-kept : drop answer.bytes after ≡ drop answer.bytes before
-  later-kept =
+  pub later_kept : drop answer.bytes after ≡ drop answer.bytes before
+  later_kept =
       by_cases c before (λ a bytes. drop a.bytes bytes ≡ drop a.bytes before) refl refl
       (λ h. drop_at (file_bytes_of c) (drop (length (file_bytes_of c)) before) (length (file_bytes_of c)) refl)
 
-  pub length-kept : length after ≡ length before
-  length-kept =
+  pub length_kept : length after ≡ length before
+  length_kept =
       by_cases c before (λ a bytes. length bytes ≡ length before) refl refl
       (λ h. rw (length-append (file_bytes_of c) (drop (length (file_bytes_of c)) before), length-drop (length (file_bytes_of c)) before) (omega arith))
 
@@ -149,30 +159,30 @@ module _ (c : FileCommand) (before : List ℕ) where
       (λ h z. (refl, take_at (file_bytes_of c) (drop (length (file_bytes_of c)) before) (length (file_bytes_of c)) refl))
 
   -- a refused write reports 0 and changes nothing
-  pub refused-kept : (answer.number ≡ 0 → ⊥) → (answer.bytes ≡ 0) × (after ≡ before)
-  refused-kept =
+  pub refused_kept : (answer.number ≡ 0 → ⊥) → (answer.bytes ≡ 0) × (after ≡ before)
+  refused_kept =
       by_cases c before (λ a bytes. (a.number ≡ 0 → ⊥) → (a.bytes ≡ 0) × (bytes ≡ before)) (λ n. (refl, refl)) (λ n. (refl, refl))
       (λ h n. absurd (n refl))
 
   -- no offset is stated
-  pub no-offset : answer.offset ≡ 0
-  no-offset = by_cases c before (λ a bytes. a.offset ≡ 0) refl refl (λ h. refl)
+  pub no_offset : answer.offset ≡ 0
+  no_offset = by_cases c before (λ a bytes. a.offset ≡ 0) refl refl (λ h. refl)
 
 -- ---- the same where the values given may make no command
 
 module _ (before : List ℕ) where
-  pub given-later-kept : (g : Option FileCommand) → drop (write_given g (length before)).bytes (bytes_given g before) ≡ drop (write_given g (length before)).bytes before
-  given-later-kept none = refl
-  given-later-kept (some c) = later-kept c before
+  pub given_later_kept : (g : Option FileCommand) → drop (write_given g (length before)).bytes (bytes_given g before) ≡ drop (write_given g (length before)).bytes before
+  given_later_kept none = refl
+  given_later_kept (some c) = later_kept c before
 
-  pub given-length-kept : (g : Option FileCommand) → length (bytes_given g before) ≡ length before
-  given-length-kept none = refl
-  given-length-kept (some c) = length-kept c before
+  pub given_length_kept : (g : Option FileCommand) → length (bytes_given g before) ≡ length before
+  given_length_kept none = refl
+  given_length_kept (some c) = length_kept c before
 
-  pub given-refused-kept : (g : Option FileCommand) → ((write_given g (length before)).number ≡ 0 → ⊥) → ((write_given g (length before)).bytes ≡ 0) × (bytes_given g before ≡ before)
-  given-refused-kept none = λ n. (refl, refl)
-  given-refused-kept (some c) = refused-kept c before
+  pub given_refused_kept : (g : Option FileCommand) → ((write_given g (length before)).number ≡ 0 → ⊥) → ((write_given g (length before)).bytes ≡ 0) × (bytes_given g before ≡ before)
+  given_refused_kept none = λ n. (refl, refl)
+  given_refused_kept (some c) = refused_kept c before
 
-  pub given-no-offset : (g : Option FileCommand) → (write_given g (length before)).offset ≡ 0
-  given-no-offset none = refl
-  given-no-offset (some c) = no-offset c before
+  pub given_no_offset : (g : Option FileCommand) → (write_given g (length before)).offset ≡ 0
+  given_no_offset none = refl
+  given_no_offset (some c) = no_offset c before

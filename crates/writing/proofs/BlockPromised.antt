@@ -1,6 +1,6 @@
 -- What the write of a block promises follows in each of its cases: the count is out of range, the words are too few, or they make a
 -- block, of which what Promised.antt says holds. Assumes nothing.
-use mathlib.Core.Bool.{Bool, not, true, false, ◌&&◌}
+use mathlib.Core.Bool.{Bool, true, false, ◌&&◌}
 use mathlib.Core.List.{List, [], ◌∷◌}
 use mathlib.Core.Path.{◌≡◌, refl, sym, ap, ◌∙◌}
 use Prim.Native.Nat.{ℕ, ◌+◌, ◌*◌, ◌%◌, ◌≤◌, ◌<◌}
@@ -8,7 +8,7 @@ use native.Mathlib.Nat.{div-one, mod-eq_of_lt}
 use native.Mathlib.Omega.{arith}
 use lib.Dec.{leb, lit<}
 use lib.ListN.{length}
-use borrow.Author.Tests.{not-true, not-false, le-leb, lt-leb, leb-true, leb-false}
+use borrow.Author.Tests.{le-leb, lt-leb, leb-true, leb-false}
 use Rattle.slices.specs.Written.{Put}
 use Rattle.slices.proofs.Writing.{behind}
 use Rattle.blocks.specs.Sets.{count_in_range, all_in_range}
@@ -46,38 +46,38 @@ module _ (count : ℕ) (words before : List ℕ) where
   unfolding block_given
   enough h p = rw (le-leb (6 * count) (length words) h) (p.answers, (p.bytes, p.back))
 
-  range-is : file_in_range (block_of count words) ≡ (count_in_range count && all_in_range (storeys_of_words count words 0))
-  range-is = ap (λ (n : ℕ). count_in_range n && all_in_range (storeys_of_words count words 0)) (given_length count words 0)
+  range_is : file_in_range (block_of count words) ≡ (count_in_range count && all_in_range (storeys_of_words count words 0))
+  range_is = ap (λ (n : ℕ). count_in_range n && all_in_range (storeys_of_words count words 0)) (given_length count words 0)
 
   -- 5 for the count, however many words there are
-  pub bad-count : {t : Bool} → t ≡ count_in_range count → not t ≡ true → PromisesBlock OutOfRange before
-  bad-count {t} e n = by (leb (6 * count) (length words)) refl
+  pub bad_count : {t : Bool} → t ≡ count_in_range count → t ≡ false → PromisesBlock OutOfRange before
+  bad_count {t} e n = by (leb (6 * count) (length words)) refl
     where
       outside : file_in_range (block_of count words) ≡ false
-      outside = range-is ∙ rw (← e, not-true t n)
+      outside = range_is ∙ rw (← e, n)
 
       by : (l : Bool) → leb (6 * count) (length words) ≡ l → PromisesBlock OutOfRange before
       by true q = enough (leb-true (6 * count) (length words) q) (command.outside (block_of count words) before (sym outside) refl)
       by false q = few (leb-false (6 * count) (length words) q)
 
-  module _ {t : Bool} (e : t ≡ count_in_range count) (n : not t ≡ false) (room : 6 * count ≤ length words) where
+  module _ {t : Bool} (e : t ≡ count_in_range count) (n : t ≡ true) (room : 6 * count ≤ length words) where
     good : count_in_range count ≡ true
-    good = sym e ∙ not-false t n
+    good = sym e ∙ n
 
-    sets-range : {u : Bool} → u ≡ all_in_range (storeys_of_words count words 0) → u ≡ file_in_range (block_of count words)
-    sets-range h = h ∙ sym (range-is ∙ rw good)
+    sets_range : {u : Bool} → u ≡ all_in_range (storeys_of_words count words 0) → u ≡ file_in_range (block_of count words)
+    sets_range h = h ∙ sym (range_is ∙ rw good)
 
     width_is : length (file_bytes_of (block_of count words)) ≡ 2 + 24 * count
     width_is = omega (arith, sets_width (storeys_of_words count words 0), given_length count words 0)
 
     -- 5 for a set
-    pub bad-set : {u : Bool} → u ≡ all_in_range (storeys_of_words count words 0) → not u ≡ true → PromisesBlock OutOfRange before
-    bad-set h m = enough room (command.outside (block_of count words) before (sets-range h) m)
+    pub bad_set : {u : Bool} → u ≡ all_in_range (storeys_of_words count words 0) → u ≡ false → PromisesBlock OutOfRange before
+    bad_set h m = enough room (command.outside (block_of count words) before (sets_range h) m)
 
-    module _ {u : Bool} (h : u ≡ all_in_range (storeys_of_words count words 0)) (m : not u ≡ false) where
+    module _ {u : Bool} (h : u ≡ all_in_range (storeys_of_words count words 0)) (m : u ≡ true) where
       -- 11
       pub short : length before < 2 + 24 * count → PromisesBlock TooShort before
-      short l = enough room (command.short (block_of count words) before (sets-range h) m (omega (arith, width_is)))
+      short l = enough room (command.short (block_of count words) before (sets_range h) m (omega (arith, width_is)))
 
       -- written
       pub done : {first second after : List ℕ} → 2 + 24 * count ≤ length before → Put before 0 (big_endian 1 11) first → Put first 1 (big_endian 1 count) second → Put second 2 (set_bytes (storeys_of_words count words 0)) after → PromisesBlock (Bytes (2 + 24 * count)) after
@@ -87,4 +87,4 @@ module _ (count : ℕ) (words before : List ℕ) where
           let head : Put before 0 (11 ∷ []) first = rw (one_byte 11 (lit< tt)) at p in
           let number : Put first 1 (length sets ∷ []) second = rw (given_length count words 0, ← one_byte count small) q in
           let whole : Put before 0 (file_bytes_of (block_of count words)) after = behind (behind head number refl (omega arith)) s refl (omega arith) in
-          rw (← width_is) (enough room (command.done (block_of count words) before (sets-range h) m tt (omega (arith, width_is)) whole))
+          rw (← width_is) (enough room (command.done (block_of count words) before (sets_range h) m tt (omega (arith, width_is)) whole))

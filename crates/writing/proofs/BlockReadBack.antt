@@ -23,7 +23,7 @@ use Rattle.format.proofs.RangeTest.{and_second}
 use Rattle.format.proofs.ReadTypes as types
 use Rattle.blocks.specs.Sets.{is_block, count_at, count_in_range, storey_at, storeys_at, sets_of, all_in_range}
 use Rattle.blocks.specs.FileCommands.{FileCommand, one, block, file_byte_of, file_command_at, width_of, width_at}
-use Rattle.blocks.proofs.Sets.{storeys_length, storey_scanned, each-in-range}
+use Rattle.blocks.proofs.Sets.{storeys_length, storey_scanned, each_in_range}
 use Rattle.blocks.proofs.FileCommands.{no_block, KnownAt}
 use Rattle.writing.specs.Bytes.{set_bytes, file_bytes_of}
 use Rattle.writing.specs.Answers.{file_in_range}
@@ -49,7 +49,7 @@ pub sets_back : (front : List ℕ) (ss : List Storey) (rest : List ℕ) → all_
 unfolding storeys_at set_bytes
 sets_back front [] rest r = refl
 sets_back front (s ∷ ss) rest r =
-    let e = each-in-range s ss r in
+    let e = each_in_range s ss r in
     let next : length front + 24 ≡ length (front ++ one_set s) = omega (arith, length-append front (one_set s), set_width s) in
     rw (
       append_assoc (one_set s) (set_bytes ss) rest,
@@ -66,20 +66,20 @@ module _ (front : List ℕ) (rest : List ℕ) where
   abbrev file : FileCommand → List ℕ
   file c = front ++ (file_bytes_of c ++ rest)
 
-  pub byte-there : (c : FileCommand) → byte_at (file c) (length front) ≡ file_byte_of c
-  byte-there (one c) = command.byte-there front c rest
-  byte-there (block ss) = rw (← add-zero (length front)) (get_or-append-add front (file_bytes_of (block ss) ++ rest) 0 0)
+  pub byte_there : (c : FileCommand) → byte_at (file c) (length front) ≡ file_byte_of c
+  byte_there (one c) = command.byte_there front c rest
+  byte_there (block ss) = rw (← add-zero (length front)) (get_or-append-add front (file_bytes_of (block ss) ++ rest) 0 0)
 
-  count-there : (ss : List Storey) → count_at (file (block ss)) (length front) ≡ length ss
-  count-there ss = get_or-append-add front (file_bytes_of (block ss) ++ rest) 1 0
+  count_there : (ss : List Storey) → count_at (file (block ss)) (length front) ≡ length ss
+  count_there ss = get_or-append-add front (file_bytes_of (block ss) ++ rest) 1 0
 
-  pub width-there : (c : FileCommand) → width_at (file c) (length front) ≡ width_of c
+  pub width_there : (c : FileCommand) → width_at (file c) (length front) ≡ width_of c
   unfolding width_at
-  width-there (one c) = rw (byte-there (one c), no_block c)
-  width-there (block ss) = rw (byte-there (block ss), count-there ss)
+  width_there (one c) = rw (byte_there (one c), no_block c)
+  width_there (block ss) = rw (byte_there (block ss), count_there ss)
 
-  sets-there : (ss : List Storey) → all_in_range ss ≡ true → storeys_at (length ss) (file (block ss)) (length front + 2) ≡ ss
-  sets-there ss r =
+  sets_there : (ss : List Storey) → all_in_range ss ≡ true → storeys_at (length ss) (file (block ss)) (length front + 2) ≡ ss
+  sets_there ss r =
       let before = front ++ (11 ∷ length ss ∷ []) in
       let place : length front + 2 ≡ length before = omega (arith, length-append front (11 ∷ length ss ∷ [])) in
       rw (place, ← append_assoc front (11 ∷ length ss ∷ []) (set_bytes ss ++ rest)) (sets_back before ss rest r)
@@ -87,9 +87,9 @@ module _ (front : List ℕ) (rest : List ℕ) where
   -- a written command read back gives the same values
   pub read_back : (c : FileCommand) → OfFileTypes c → file_in_range c ≡ true → file_command_at (file c) (length front) ≡ c
   unfolding file_command_at
-  read_back (one c) t r = rw (byte-there (one c), no_block c) (ap one (command.read_back front c rest t r))
+  read_back (one c) t r = rw (byte_there (one c), no_block c) (ap one (command.read_back front c rest t r))
   read_back (block ss) t r =
-      rw (byte-there (block ss), count-there ss, sets-there ss (and_second (count_in_range (length ss)) (all_in_range ss) r))
+      rw (byte_there (block ss), count_there ss, sets_there ss (and_second (count_in_range (length ss)) (all_in_range ss) r))
 
 -- ---- read, then written
 
@@ -103,19 +103,19 @@ module _ (job : List ℕ) (b : Bytes job) where
       by true = tt
       by false = types.types_read job start b
 
-  set-again : (at : ℕ) → at + 24 ≤ length job → one_set (storey_at job at) ≡ take 24 (drop at job)
+  set_again : (at : ℕ) → at + 24 ≤ length job → one_set (storey_at job at) ≡ take 24 (drop at job)
   unfolding operands_width
-  set-again at h =
+  set_again at h =
       let w : width_of_all (forms_of 7) ≡ 24 = widths.storey in
       let room : width_of_all (forms_of 7) ≤ length (drop at job) = rw (length-drop at job) (omega arith) in
       rw (storey_scanned job at).operands (operands_again (forms_of 7) (drop at job) room (bytes_drop at job b)) ∙ ap (λ (n : ℕ). take n (drop at job)) w
 
-  pub sets-again : (n at : ℕ) → at + 24 * n ≤ length job → set_bytes (storeys_at n job at) ≡ take (24 * n) (drop at job)
+  pub sets_again : (n at : ℕ) → at + 24 * n ≤ length job → set_bytes (storeys_at n job at) ≡ take (24 * n) (drop at job)
   unfolding storeys_at set_bytes
-  sets-again zero at h = refl
-  sets-again (suc n) at h =
+  sets_again zero at h = refl
+  sets_again (suc n) at h =
       let more : 24 * suc n ≡ 24 + 24 * n = omega arith in
-      rw (set-again at (omega arith), sets-again n (at + 24) (omega arith), more, take-add 24 (24 * n) (drop at job), drop-drop 24 at job)
+      rw (set_again at (omega arith), sets_again n (at + 24) (omega arith), more, take-add 24 (24 * n) (drop at job), drop-drop 24 at job)
 
   module _ (start : ℕ) (whole : start + width_at job start ≤ length job) where
     one_again : is_block (byte_at job start) ≡ false → known (byte_at job start) ≡ true → file_bytes_of (file_command_at job start) ≡ take (width_at job start) (drop start job)
@@ -123,23 +123,23 @@ module _ (job : List ℕ) (b : Bytes job) where
     one_again e k =
         let w : width_at job start ≡ 1 + operands_width (byte_at job start) = rw e in
         let inside : start + 1 + operands_width (byte_at job start) ≤ length job = omega arith in
-        rw e (command.written-again job start b k inside)
+        rw e (command.written_again job start b k inside)
 
-    block-again : is_block (byte_at job start) ≡ true → file_bytes_of (file_command_at job start) ≡ take (width_at job start) (drop start job)
+    block_again : is_block (byte_at job start) ≡ true → file_bytes_of (file_command_at job start) ≡ take (width_at job start) (drop start job)
     unfolding file_command_at width_at
-    block-again e =
+    block_again e =
         let n = count_at job start in
         let w : width_at job start ≡ 2 + 24 * n = rw e in
         let first : drop start job ≡ byte_at job start ∷ drop (start + 1) job = rw add-one (drop-cons job start 0 (omega arith)) in
         let behind : start + 2 ≡ suc (start + 1) = omega arith in
         let second : drop (start + 1) job ≡ n ∷ drop (start + 2) job = rw behind (drop-cons job (start + 1) 0 (omega arith)) in
         let more : 2 + 24 * n ≡ suc (suc (24 * n)) = omega arith in
-        rw e (rw (storeys_length n job (start + 2), sets-again n (start + 2) (omega arith), first, second, eqb-true (byte_at job start) 11 e, more))
+        rw e (rw (storeys_length n job (start + 2), sets_again n (start + 2) (omega arith), first, second, eqb-true (byte_at job start) 11 e, more))
 
     -- a command of a file that is read is written in the bytes that stand there
-    pub written-again : KnownAt job start → file_bytes_of (file_command_at job start) ≡ take (width_at job start) (drop start job)
-    written-again k = by (is_block (byte_at job start)) refl
+    pub written_again : KnownAt job start → file_bytes_of (file_command_at job start) ≡ take (width_at job start) (drop start job)
+    written_again k = by (is_block (byte_at job start)) refl
       where
         by : (t : Bool) → is_block (byte_at job start) ≡ t → file_bytes_of (file_command_at job start) ≡ take (width_at job start) (drop start job)
-        by true e = block-again e
+        by true e = block_again e
         by false e = one_again e (k e)

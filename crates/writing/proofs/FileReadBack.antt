@@ -3,7 +3,7 @@
 use mathlib.Core.Bool.{true}
 use mathlib.Core.List.{List, [], ◌∷◌, ◌++◌, append_assoc, append-nil}
 use mathlib.Core.Path.{◌≡◌, refl}
-use Prim.Native.Nat.{ℕ, zero, suc, ◌+◌, ◌-◌, ◌≤◌, ◌<◌}
+use Prim.Native.Nat.{ℕ, zero, suc, ◌+◌, ◌≤◌, ◌<◌}
 use native.Mathlib.Nat.{not-suc-le-zero}
 use native.Mathlib.Omega.{arith}
 use lib.ListN.{length, drop, length-append, length-drop}
@@ -15,8 +15,8 @@ use Rattle.blocks.specs.FileCommands.{FileCommand, one, file_byte_of, width_of}
 use Rattle.writing.specs.Bytes.{operand_bytes, bytes_of, file_bytes_of}
 use Rattle.writing.specs.Answers.{file_in_range}
 use Rattle.writing.specs.Files.{AllWritable, all_bytes, written_in_turn, with_offsets, read_from}
-use Rattle.writing.proofs.Answered.{file_bytes_width, end_in_range, answer-written, slice_written}
-use Rattle.writing.proofs.BlockReadBack.{byte-there, width-there, read_back}
+use Rattle.writing.proofs.Answered.{file_bytes_width, end_in_range, answer_written, slice_written}
+use Rattle.writing.proofs.BlockReadBack.{byte_there, width_there, read_back}
 
 -- ---- written
 
@@ -35,7 +35,7 @@ written_bytes (c ∷ cs) before r h =
     let here : w ≤ length before = omega arith in
     let room : length (all_bytes cs) ≤ length rest = rw (length-drop w before) (omega arith) in
     rw (
-      answer-written c r.0 (length before) here,
+      answer_written c r.0 (length before) here,
       slice_written c r.0 before here,
       take_at (file_bytes_of c) rest w refl,
       drop_at (file_bytes_of c) rest w refl,
@@ -54,17 +54,17 @@ end_byte = refl
 pub commands_read : (front : List ℕ) (cs : List FileCommand) (rest : List ℕ) → AllWritable cs → (n : ℕ) → length cs < n → read_from n (front ++ (all_bytes cs ++ (bytes_of finish ++ rest))) (length front) ≡ with_offsets (length front) cs
 unfolding all_bytes read_from
 commands_read front cs rest w zero h = absurd (not-suc-le-zero h)
-commands_read front [] rest w (suc n) h = rw (byte-there front rest (one finish))
+commands_read front [] rest w (suc n) h = rw (byte_there front rest (one finish))
 commands_read front (c ∷ cs) rest w (suc n) h =
     let later = all_bytes cs ++ (bytes_of finish ++ rest) in
     let there : length (front ++ file_bytes_of c) ≡ length front + length (file_bytes_of c) = length-append front (file_bytes_of c) in
     let next : length front + width_of c ≡ length (front ++ file_bytes_of c) = omega (arith, file_bytes_width c) in
     rw (
       append_assoc (file_bytes_of c) (all_bytes cs) (bytes_of finish ++ rest),
-      byte-there front later c,
+      byte_there front later c,
       ne_eqb (file_byte_of c) 0 w.0.other,
       read_back front later c w.0.types w.0.range,
-      width-there front later c,
+      width_there front later c,
       next,
       ← append_assoc front (file_bytes_of c) later,
       commands_read (front ++ file_bytes_of c) cs rest w.1 n (omega arith),

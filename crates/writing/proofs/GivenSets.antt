@@ -12,7 +12,7 @@ use Rattle.slices.proofs.Writing.{written_none, behind, put_length}
 use Rattle.format.specs.declared.Command.TheVariants.{Storey as storey}
 use Rattle.format.specs.Commands.{in_range}
 use Rattle.blocks.specs.Sets.{all_in_range}
-use Rattle.blocks.proofs.Sets.{first-in-range, first-at-fault}
+use Rattle.blocks.proofs.Sets.{first_in_range, first_at_fault}
 use Rattle.writing.specs.Bytes.{set_bytes}
 use Rattle.writing.specs.BlockGiven.{storey_of_words, storeys_of_words}
 use Rattle.writing.proofs.SetBytes.{one_set, set_width, sets_width, sets_more}
@@ -53,20 +53,20 @@ module _ (words : List ℕ) (count set at : ℕ) (s : Testing words count set at
         let e : count - set ≡ suc (count - (set + 1)) = omega arith in
         ap (λ (n : ℕ). storeys_of_words n words at) e
 
-    pub tests-on : in_range (storey (storey_of_words words at)) ≡ true → Testing words count (set + 1) (at + 6)
-    tests-on r =
+    pub tests_on : in_range (storey (storey_of_words words at)) ≡ true → Testing words count (set + 1) (at + 6)
+    tests_on r =
         record {
           within = omega arith;
           at_is = omega (arith, s.at_is);
-          range = s.range ∙ ap all_in_range split ∙ (first-in-range (storey_of_words words at) (storeys_of_words (count - (set + 1)) words (at + 6)) r).0;
+          range = s.range ∙ ap all_in_range split ∙ (first_in_range (storey_of_words words at) (storeys_of_words (count - (set + 1)) words (at + 6)) r).0;
         }
 
-    pub test-fails : in_range (storey (storey_of_words words at)) ≡ false → all_in_range (storeys_of_words count words 0) ≡ false
-    test-fails r = s.range ∙ ap all_in_range split ∙ (first-at-fault (storey_of_words words at) (storeys_of_words (count - (set + 1)) words (at + 6)) r).0
+    pub test_fails : in_range (storey (storey_of_words words at)) ≡ false → all_in_range (storeys_of_words count words 0) ≡ false
+    test_fails r = s.range ∙ ap all_in_range split ∙ (first_at_fault (storey_of_words words at) (storeys_of_words (count - (set + 1)) words (at + 6)) r).0
 
-  pub test-ends : count ≤ set → all_in_range (storeys_of_words count words 0) ≡ true
+  pub test_ends : count ≤ set → all_in_range (storeys_of_words count words 0) ≡ true
   unfolding storeys_of_words all_in_range
-  test-ends l =
+  test_ends l =
       let e : count - set ≡ 0 = omega arith in
       s.range ∙ ap (λ (n : ℕ). all_in_range (storeys_of_words n words at)) e
 
@@ -91,13 +91,13 @@ put_begins before words count =
     }
 
 module _ (before words : List ℕ) (count : ℕ) (bytes : List ℕ) (set from at : ℕ) (s : Putting before words count bytes set from at) where
-  puts-more : set_bytes (storeys_of_words set words 0) ++ one_set (storey_of_words words from) ≡ set_bytes (storeys_of_words (set + 1) words 0)
-  puts-more =
+  puts_more : set_bytes (storeys_of_words set words 0) ++ one_set (storey_of_words words from) ≡ set_bytes (storeys_of_words (set + 1) words 0)
+  puts_more =
       let e : from ≡ 0 + 6 * set = omega (arith, s.from_is) in
       rw (e, add-one set, given_more set words 0) (sym (sets_more (storeys_of_words set words 0) (storey_of_words words (0 + 6 * set))))
 
-  pub puts-on : {after : List ℕ} → set < count → 2 + 24 * count ≤ length before → Put bytes at (one_set (storey_of_words words from)) after → Putting before words count after (set + 1) (from + 6) (at + 24)
-  puts-on {after} l room p =
+  pub puts_on : {after : List ℕ} → set < count → 2 + 24 * count ≤ length before → Put bytes at (one_set (storey_of_words words from)) after → Putting before words count after (set + 1) (from + 6) (at + 24)
+  puts_on {after} l room p =
       let here : 2 + length (set_bytes (storeys_of_words set words 0)) ≡ at = omega (arith, s.at_is, sets_width (storeys_of_words set words 0), given_length set words 0) in
       let fits : at + length (one_set (storey_of_words words from)) ≤ length bytes = omega (arith, s.at_is, s.kept, set_width (storey_of_words words from)) in
       record {
@@ -105,10 +105,10 @@ module _ (before words : List ℕ) (count : ℕ) (bytes : List ℕ) (set from at
         from_is = omega (arith, s.from_is);
         at_is = omega (arith, s.at_is);
         kept = put_length p fits ∙ s.kept;
-        put = subst (λ (t : List ℕ). Put before 2 t after) puts-more (behind s.put p here (omega arith));
+        put = subst (λ (t : List ℕ). Put before 2 t after) puts_more (behind s.put p here (omega arith));
       }
 
-  pub put-ends : count ≤ set → Put before 2 (set_bytes (storeys_of_words count words 0)) bytes
-  put-ends l =
+  pub put_ends : count ≤ set → Put before 2 (set_bytes (storeys_of_words count words 0)) bytes
+  put_ends l =
       let e : set ≡ count = omega (arith, s.within) in
       rw e at s.put

@@ -1,12 +1,11 @@
 -- What a write promises follows in each of its three cases: the command is out of range, the slice is too short, the bytes are put
 -- into the slice. The test of the range is a Bool that the code has. Assumes nothing.
-use mathlib.Core.Bool.{Bool, not, true, false}
+use mathlib.Core.Bool.{Bool, true, false}
 use mathlib.Core.List.{List, [], ◌++◌}
 use mathlib.Core.Path.{◌≡◌, sym, ap, ◌∙◌}
 use Prim.Native.Nat.{ℕ, ◌≤◌, ◌<◌}
 use native.Mathlib.Nat.{zero-add}
 use lib.ListN.{length, drop}
-use borrow.Author.Tests.{not-true, not-false}
 use Rattle.slices.specs.Written.{written, Put}
 use Rattle.format.specs.declared.Command.{Command}
 use Rattle.format.specs.Reading.{command_at}
@@ -16,25 +15,25 @@ use Rattle.writing.specs.declared.Written.TheVariants.{Bytes, OutOfRange, TooSho
 use Rattle.writing.specs.Bytes.{file_bytes_of}
 use Rattle.writing.specs.Answers.{answer_of, file_in_range, write_of, bytes_after, WritesFileCommand, WritesCommand}
 use Rattle.writing.specs.Files.{OfFileTypes}
-use Rattle.writing.proofs.Answered.{numbered, answer-5, slice-5, answer-11, slice-11, answer-written, slice_written}
+use Rattle.writing.proofs.Answered.{numbered, answer_5, slice_5, answer_11, slice_11, answer_written, slice_written}
 use Rattle.blocks.proofs.FileCommands.{one_read}
 use Rattle.writing.proofs.BlockReadBack.{read_back}
 
 module _ (c : FileCommand) (before : List ℕ) where
-  pub outside : {t : Bool} → t ≡ file_in_range c → not t ≡ true → WritesFileCommand c before OutOfRange before
+  pub outside : {t : Bool} → t ≡ file_in_range c → t ≡ false → WritesFileCommand c before OutOfRange before
   outside {t} e n =
-      let r : file_in_range c ≡ false = sym e ∙ not-true t n in
-      record { answers = sym (answer-5 c r (length before)); bytes = sym (slice-5 c r before); back = λ z. absurd (numbered z) }
+      let r : file_in_range c ≡ false = sym e ∙ n in
+      record { answers = sym (answer_5 c r (length before)); bytes = sym (slice_5 c r before); back = λ z. absurd (numbered z) }
 
-  module _ {t : Bool} (e : t ≡ file_in_range c) (n : not t ≡ false) where
+  module _ {t : Bool} (e : t ≡ file_in_range c) (n : t ≡ true) where
     range : file_in_range c ≡ true
-    range = sym e ∙ not-false t n
+    range = sym e ∙ n
 
     pub short : length before < length (file_bytes_of c) → WritesFileCommand c before TooShort before
     short h =
         record {
-          answers = sym (answer-11 c range (length before) h);
-          bytes = sym (slice-11 c range before h);
+          answers = sym (answer_11 c range (length before) h);
+          bytes = sym (slice_11 c range before h);
           back = λ z. absurd (numbered z);
         }
 
@@ -44,7 +43,7 @@ module _ (c : FileCommand) (before : List ℕ) where
         let rest = drop (length (file_bytes_of c)) before in
         let is : after ≡ file_bytes_of c ++ rest = put.bytes ∙ ap (λ (k : ℕ). file_bytes_of c ++ drop k before) (zero-add (length (file_bytes_of c))) in
         record {
-          answers = sym (answer-written c range (length before) room);
+          answers = sym (answer_written c range (length before) room);
           bytes = is ∙ sym (slice_written c range before room);
           back = λ z. rw is (read_back [] rest c types range);
         }

@@ -3,7 +3,7 @@
 use mathlib.Core.Bool.{true}
 use mathlib.Core.List.{List, [], ◌∷◌, ◌++◌}
 use mathlib.Core.Path.{◌≡◌, refl, sym, ap, ◌∙◌}
-use Prim.Native.Nat.{ℕ, suc, ◌+◌, ◌-◌, ◌≤◌, ◌<◌}
+use Prim.Native.Nat.{ℕ, suc, ◌+◌, ◌≤◌, ◌<◌}
 use native.Mathlib.Nat.{add-zero}
 use native.Mathlib.Numerals.{add-one}
 use native.Mathlib.Omega.{arith}
@@ -24,7 +24,7 @@ use Rattle.format.specs.declared.Command.TheVariants.{Finish as finish, Settings
 use Rattle.format.specs.Commands.{byte_of, operands_of, command_of, related, all_in_range, in_range}
 use Rattle.format.specs.Reading.{command_at}
 use Rattle.format.proofs.RangeTest.{and_first}
-use Rattle.format.proofs.CommandRead.{byte-read, operands-read}
+use Rattle.format.proofs.CommandRead.{byte_read, operands_read}
 use Rattle.numbers.specs.BigEndian.{big_endian}
 use Rattle.writing.specs.Bytes.{operand_bytes, bytes_of}
 use Rattle.format.specs.Types.{OfTypes}
@@ -87,19 +87,19 @@ module _ (front : List ℕ) (c : Command) (rest : List ℕ) where
   abbrev file : List ℕ
   file = front ++ (bytes_of c ++ rest)
 
-  pub byte-there : byte_at file (length front) ≡ byte_of c
+  pub byte_there : byte_at file (length front) ≡ byte_of c
   unfolding bytes_of
-  byte-there = ap (λ (k : ℕ). get_or file k 0) (sym (add-zero (length front))) ∙ get_or-append-add front (bytes_of c ++ rest) 0 0
+  byte_there = ap (λ (k : ℕ). get_or file k 0) (sym (add-zero (length front))) ∙ get_or-append-add front (bytes_of c ++ rest) 0 0
 
-  operands-there : drop (length front + 1) file ≡ operand_bytes (forms_of (byte_of c)) (operands_of c) ++ rest
+  operands_there : drop (length front + 1) file ≡ operand_bytes (forms_of (byte_of c)) (operands_of c) ++ rest
   unfolding bytes_of
-  operands-there = drop-append-add front (bytes_of c ++ rest) 1
+  operands_there = drop-append-add front (bytes_of c ++ rest) 1
 
   -- a written command read back gives the same values
   pub read_back : OfTypes c → in_range c ≡ true → command_at file (length front) ≡ c
   unfolding command_at
   read_back t r =
-      rw (byte-there, operands-there, operands_back (forms_of (byte_of c)) (operands_of c) rest (fits c t r)) (same_command c t)
+      rw (byte_there, operands_there, operands_back (forms_of (byte_of c)) (operands_of c) rest (fits c t r)) (same_command c t)
 
 -- ---- read, then written
 
@@ -111,12 +111,12 @@ module _ (job : List ℕ) (start : ℕ) (b : Bytes job) (k : known (byte_at job 
       operands_again (forms_of (byte_at job start)) (drop (start + 1) job) room (bytes_drop (start + 1) job b)
 
   -- a command that is read is written in the bytes that stand there
-  pub written-again : bytes_of (command_at job start) ≡ take (1 + operands_width (byte_at job start)) (drop start job)
+  pub written_again : bytes_of (command_at job start) ≡ take (1 + operands_width (byte_at job start)) (drop start job)
   unfolding bytes_of
-  written-again =
+  written_again =
       let first : drop start job ≡ byte_at job start ∷ drop (start + 1) job = rw add-one (drop-cons job start 0 (omega (arith, whole))) in
       let more : 1 + operands_width (byte_at job start) ≡ suc (operands_width (byte_at job start)) = omega arith in
-      rw (byte-read job start k, operands-read job start b, operands_same, first, more)
+      rw (byte_read job start k, operands_read job start b, operands_same, first, more)
 
 -- ---- a soil value
 

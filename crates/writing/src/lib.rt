@@ -1,5 +1,7 @@
 // The calls `write` and `write_block`: one command's values, or a block of storeys, written as bytes into a lent slice. Neither has a
 // `requires`. 02, No. 2 and No. 7.
+#![tactic(auto)]
+
 ghost use Rattle.std.specs.Prelude.{◌≡◌, ◌+◌, ◌*◌, ◌≤◌, length, take, drop};
 ghost use Rattle.slices.specs.Written.{Put};
 ghost use Rattle.layout.specs.Layouts.{forms_of};
@@ -18,7 +20,7 @@ use members::{Beam, Column, Detail, Hingeless, Joint};
 use walls::{Storey, WallBase};
 
 // The answer of write. `answer_of` gives 02's number, offset and bytes of each case.
-#[derive(Drop)]
+#[derive(Clone, Copy)]
 pub enum Written {
     // The bytes written.
     Bytes(usize),
@@ -201,6 +203,7 @@ fn put_actions(bytes: &mut [u8], f: Footing)
     numbers::put_signeds(bytes, 33, f.yv, f.ye, f.hv, f.he);
 }
 
+#[tactic(auto, using(crate::proofs::Answered::footing_answer, crate::proofs::Answered::footing_slice))]
 pub fn write_footing(f: Footing, bytes: &mut [u8]) -> Written
     ensures { WritesCommand (Command.Footing f) bytes.old result bytes.new }
 {

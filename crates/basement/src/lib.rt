@@ -1,0 +1,55 @@
+// Rows of a basement member: 02, No. 9. Every operand is in the range of 01, and every number on the way fits 64 bits.
+#![tactic(auto)]
+
+ghost use Rattle.std.specs.Prelude.{◌≡◌, ◌||◌, ◌≤◌, pos, neg_ℤ};
+ghost use Rattle.std.specs.Int.Signed.{lt_z};
+ghost use Rattle.coefficient.specs.Coefficient.{fraction};
+ghost use Rattle.actions.specs.Ranges.{ActionRange};
+ghost use Rattle.basement.specs.Basement.{basement_row};
+
+use claims::Row;
+use coefficient::Quotient;
+
+// VV, VE, MV, ME, the shear and the moment, each non-seismic and seismic; VR, MR, the strengths. Place 0: the nearest possible hinge is
+// at a joint; 1: it is in the latest wall.
+#[derive(Clone, Copy)]
+pub struct Basement {
+    pub place: u32,
+    pub nonseismic_shear: i32,
+    pub seismic_shear: u32,
+    pub nonseismic_moment: i32,
+    pub seismic_moment: u32,
+    pub shear_strength: u32,
+    pub moment_strength: u32,
+}
+
+// Whether upper or minus lower exceeds the strength.
+fn either_exceeds(upper: i64, lower: i64, strength: u32) -> bool
+    ensures { result ≡ (lt_z (pos strength) upper || lt_z (pos strength) (neg_ℤ lower)) }
+{
+    let limit = claims::word(strength as u64);
+    if limit < upper {
+        return true;
+    }
+    lower < 0 - limit
+}
+
+// B.2 [4]: a value of a basement member, V ± a·E, against its strength: upper and lower, and the bit where one of them exceeds it. A
+// shear has bit 1, a moment bit 2.
+pub fn basement_row(bit: u64, a: Quotient, steady: i32, seismic: u32, strength: u32) -> Row
+    requires bit { bit ≤ 2 }
+    requires range { ActionRange a steady (pos seismic) }
+    ensures { result ≡ basement_row bit (fraction a) steady seismic strength }
+{
+    let upper = actions::action_up(a, steady, seismic as i32, false);
+    let lower = actions::action_down(a, steady, seismic as i32, true);
+    let exceeded = either_exceeds(upper, lower, strength);
+    Row {
+        word2: upper,
+        word3: lower,
+        word4: claims::word(strength as u64),
+        word5: 0,
+        word6: 0,
+        verdict: claims::word(claims::flagged(bit, exceeded)),
+    }
+}

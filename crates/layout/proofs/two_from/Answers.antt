@@ -1,0 +1,10 @@
+-- `layout::two_from` meets its contract. Assumes nothing.
+use Prim.Native.Nat.{◌+◌}
+use native.Mathlib.Omega.{arith}
+use Rattle.layout.proofs.Numbers.{two_bytes}
+use Rattle.layout.proofs.two_from.Goals as goal
+
+pub returns : goal.returns
+returns c =
+    let s = c.args in
+    rw (c.byte-first.ensures.is, c.byte-second.ensures.is) (two_bytes s.job.now (s.at + s.skip) (omega arith))

@@ -1,0 +1,18 @@
+-- `soil::tangent` meets its contract: the value of take-down's answer. Assumes nothing.
+use mathlib.Core.Path.{ap, ◌∙◌}
+use lib.Dec.{lit≤}
+use Rattle.soil.specs.Answers.{Answer}
+use Rattle.soil.specs.Taken.{take_down, tangent_of}
+use Rattle.soil.proofs.Patterns.{two, two_allowed}
+use Rattle.soil.proofs.tangent.Goals as goal
+
+pub take-requires : goal.take-requires
+take-requires c =
+    record {
+      limit = two_allowed;
+      factor = lit≤ tt;
+    }
+
+pub returns : goal.returns
+unfolding tangent_of take_down
+returns c = c.value_or_zero.ensures ∙ ap (λ (a : Answer). a.value) (c.take.ensures 2 two)

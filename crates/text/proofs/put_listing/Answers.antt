@@ -1,0 +1,13 @@
+-- `text::put_listing` meets its contract: the rows take at most 168 bytes each, and the totals follow. Assumes nothing.
+use native.Mathlib.Omega.{arith}
+use Rattle.text.specs.Lines.{listing_text}
+use Rattle.slices.proofs.Writing.{then}
+use Rattle.text.proofs.put_listing.Goals as goal
+
+pub returns : goal.returns
+unfolding listing_text
+returns c =
+    record {
+      writes = then (omega (arith, c.requires.1)) c.put_rows-next.ensures.writes c.put_totals.ensures.writes;
+      short = omega (arith, c.put_rows-next.ensures.short, c.put_totals.ensures.short);
+    }

@@ -1,0 +1,33 @@
+-- `writing::write_block` meets its contract: the count, the words, the sets, the room, or its byte, its count and its sets. Assumes nothing.
+use Rattle.writing.proofs.BlockPromised.{few, bad_count, bad_set, short, done}
+use Rattle.writing.proofs.write_block.Goals as goal
+
+pub returns-then-not-count_in_range : goal.returns-then-not-count_in_range
+returns-then-not-count_in_range c =
+    let a = c.args in
+    let p = bad_count a.count a.sets.now a.bytes.now c.count_in_range.ensures c.if-not-count_in_range.true in
+    record { answer = p.0; bytes = p.1.0; back = p.1.1 }
+
+pub returns-then-sets-n : goal.returns-then-sets-n
+returns-then-sets-n c =
+    let a = c.args in
+    let p = few a.count a.sets.now a.bytes.now c.if-sets-n.true in
+    record { answer = p.0; bytes = p.1.0; back = p.1.1 }
+
+pub returns-then-not-sets_in_range : goal.returns-then-not-sets_in_range
+returns-then-not-sets_in_range c =
+    let a = c.args in
+    let p = bad_set a.count a.sets.now a.bytes.now c.count_in_range.ensures c.if-not-count_in_range.false c.if-sets-n.false c.sets_in_range.ensures c.if-not-sets_in_range.true in
+    record { answer = p.0; bytes = p.1.0; back = p.1.1 }
+
+pub returns-then-bytes-n : goal.returns-then-bytes-n
+returns-then-bytes-n c =
+    let a = c.args in
+    let p = short a.count a.sets.now a.bytes.now c.count_in_range.ensures c.if-not-count_in_range.false c.if-sets-n.false c.sets_in_range.ensures c.if-not-sets_in_range.false c.if-bytes-n.true in
+    record { answer = p.0; bytes = p.1.0; back = p.1.1 }
+
+pub returns : goal.returns
+returns c =
+    let a = c.args in
+    let p = done a.count a.sets.now a.bytes.now c.count_in_range.ensures c.if-not-count_in_range.false c.if-sets-n.false c.sets_in_range.ensures c.if-not-sets_in_range.false c.if-bytes-n.false c.put_one.ensures c.put_one-2.ensures c.put_sets.ensures in
+    record { answer = p.0; bytes = p.1.0; back = p.1.1 }
