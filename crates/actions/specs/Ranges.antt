@@ -1,7 +1,9 @@
 -- What the functions of an action ask of their operands, and the sign of a direction. Assumes nothing.
-use Rattle.std.specs.Prelude.{Bool, true, false, ◌*◌, ◌≤◌, ◌<◌, ℤ, neg_ℤ, nat_abs}
+use Rattle.std.specs.Prelude.{◌*◌, ◌≤◌, ◌<◌, ℤ, neg_ℤ, nat_abs}
 use Rattle.coefficient.specs.declared.Quotient.{Quotient}
 use Rattle.coefficient.specs.Coefficient.{Capped}
+use Rattle.actions.specs.declared.Sign.{Sign}
+use Rattle.actions.specs.declared.Sign.TheVariants.{Plus, Minus}
 
 -- a·E over the denominator of a fits
 pub record PartFits (a : Quotient) (e : ℤ) : Type 0 where
@@ -21,7 +23,7 @@ pub record ActionRange (a : Quotient) (v e : ℤ) : Type 0 where
   pub steady : nat_abs v ≤ 100000000
   pub seismic : nat_abs e ≤ 100000000
 
--- z with the sign of the direction; the one with sign − is `true`
-abbrev pub turned : Bool → ℤ → ℤ
-turned false z = z
-turned true z = neg_ℤ z
+-- z with a sign
+abbrev pub turned : Sign → ℤ → ℤ
+turned Plus z = z
+turned Minus z = neg_ℤ z

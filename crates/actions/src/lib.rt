@@ -1,57 +1,40 @@
-// An action V ± a·E, rounded: up, down, or its size without its sign up. The crate `basement` is over it: 02, No. 9; footing and members
-// have functions of their own (01, "Soil and footing", "Members").
+// An action V ± a·E, a non-seismic value plus or minus the coefficient times a seismic one, unrounded: `exact::Sum` rounds it. The crates
+// `basement` and `footing` are over it.
 #![tactic(auto)]
 
 ghost use Rattle.std.specs.Prelude.{◌≡◌, pos, ◌*ℤ◌};
-ghost use Rattle.exact.specs.Fraction.{up_f};
-ghost use Rattle.exact.specs.SignedFraction.{size, up_s, down_s};
 ghost use Rattle.coefficient.specs.Coefficient.{fraction};
 ghost use Rattle.actions.specs.Action.{action};
 ghost use Rattle.actions.specs.Ranges.{turned, PartFits, ActionFits};
 
 use coefficient::Quotient;
+use exact::Sum;
+
+// The sign of a direction.
+#[derive(Clone, Copy)]
+pub enum Sign {
+    Plus,
+    Minus,
+}
 
 // ± a·E over the denominator of a.
-fn seismic_part(a: Quotient, e: i32, minus: bool) -> i64
+#[tactic(auto, using(crate::proofs::Sums::part_fits, crate::proofs::Sums::negated_fits))]
+fn seismic_part(a: Quotient, e: i32, sign: Sign) -> i64
     requires { PartFits a e }
-    ensures { result ≡ turned minus (pos a.num *ℤ e) }
+    ensures { result ≡ turned sign (pos a.num *ℤ e) }
 {
-    let part = claims::word(a.num) * exact::long(e);
-    if minus { 0 - part } else { part }
+    let part = (a.num as i64) * i64::from(e);
+    match sign {
+        Sign::Plus => part,
+        Sign::Minus => -part,
+    }
 }
 
-// V ± a·E, up.
-pub fn action_up(a: Quotient, v: i32, e: i32, minus: bool) -> i64
+// V ± a·E.
+#[tactic(auto, using(crate::proofs::Sums::sum_fits, crate::proofs::Sums::action_is))]
+pub fn action(a: Quotient, v: i32, e: i32, sign: Sign) -> Sum
     requires { ActionFits a v e }
-    ensures { result ≡ up_s (action minus (fraction a) v e) }
+    ensures { result ≡ action sign (fraction a) v e }
 {
-    exact::sum_up(
-        exact::long(v),
-        seismic_part(a, e, minus),
-        claims::word(a.den),
-    )
-}
-
-// V ± a·E, down.
-pub fn action_down(a: Quotient, v: i32, e: i32, minus: bool) -> i64
-    requires { ActionFits a v e }
-    ensures { result ≡ down_s (action minus (fraction a) v e) }
-{
-    exact::sum_down(
-        exact::long(v),
-        seismic_part(a, e, minus),
-        claims::word(a.den),
-    )
-}
-
-// The size of V ± a·E without its sign, up.
-pub fn action_size(a: Quotient, v: i32, e: i32, minus: bool) -> u64
-    requires { ActionFits a v e }
-    ensures { result ≡ up_f (size (action minus (fraction a) v e)) }
-{
-    exact::size_up(
-        exact::long(v),
-        seismic_part(a, e, minus),
-        claims::word(a.den),
-    ) as u64
+    Sum::new(i64::from(v), seismic_part(a, e, sign), a.den)
 }

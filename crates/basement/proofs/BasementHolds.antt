@@ -2,25 +2,25 @@
 -- never; for every V, E and strength, and every coefficient that is a fraction. Assumes nothing.
 use Prim.Native.Nat.{ℕ}
 use native.Mathlib.Omega.{arith}
-use mathlib.Core.Bool.{true, false}
 use lib.IntN.{ℤ, pos, sub_ℕ}
 use Rattle.exact.specs.Fraction.{Fraction, Proper, whole}
 use Rattle.exact.specs.SignedFraction.{ProperS, up_s, down_s}
 use Rattle.exact.proofs.Integers.{sub_ℕ_law}
 use Rattle.exact.proofs.Rounding.{up_ℤ_le, up_ℤ_lt, down_ℤ_le, down_ℤ_lt}
 use Rattle.claims.specs.Claims.{Hold}
+use Rattle.actions.specs.declared.Sign.TheVariants.{Plus, Minus}
 use Rattle.actions.proofs.Sums.{proper}
 use Rattle.basement.specs.declared.Basement.{Basement}
 use Rattle.basement.specs.Basement.{upper_value, lower_value, basement_row, basement_shear_row, basement_moment_row, basement_claims, basement_shear_claims, basement_moment_claims, Strays}
-use Rattle.basement.proofs.UpperLower.{shears_hold, moments_hold, upper_check_lem, lower_check_lem}
+use Rattle.claims.proofs.UpperLower.{shears_hold, moments_hold, upper_check_lem, lower_check_lem}
 
 module _ (a : Fraction) (p : Proper a) where
   module _ (v : ℤ) (e s : ℕ) where
     upper_proper : ProperS (upper_value a v e)
-    upper_proper = proper false a v (pos e) p
+    upper_proper = proper Plus a v (pos e) p
 
     lower_proper : ProperS (lower_value a v e)
-    lower_proper = proper true a v (pos e) p
+    lower_proper = proper Minus a v (pos e) p
 
     shears_held : Hold (basement_claims 1 a v e s (basement_row 1 a v e s))
     unfolding basement_claims basement_row

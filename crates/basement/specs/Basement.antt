@@ -1,7 +1,7 @@
 -- Basement member (B.2 [4]). 02, No. 9: it is sized "by the coefficient of the nearest possible hinge"; "It writes a shear row and then a
 -- moment row, word 1 being 0C: VV + a·VE up, VV − a·VE down, VR, and the same for the moments." "Bit 1 in the shear row and bit 2 in the
 -- moment row tell that upper or minus lower exceeds the strength." Here a is given, and not which hinge it is of.
-use Rattle.std.specs.Prelude.{true, false, ◌||◌, [], ◌∷◌, ℕ, ℤ, pos, neg_ℤ}
+use Rattle.std.specs.Prelude.{◌||◌, [], ◌∷◌, ℕ, ℤ, pos, neg_ℤ}
 use Rattle.std.specs.Int.Signed.{lt_z}
 use Rattle.exact.specs.Fraction.{Fraction, whole}
 use Rattle.exact.specs.SignedFraction.{SignedFraction, whole_s, signed, neg_s, ◌≤S◌, ◌<S◌, ◌+S◌, up_s, down_s}
@@ -9,15 +9,16 @@ use Rattle.claims.specs.declared.Row.{Row}
 use Rattle.claims.specs.Verdict.{flag}
 use Rattle.claims.specs.Exact.{value}
 use Rattle.claims.specs.Claims.{Claims, plain, operand, check}
+use Rattle.actions.specs.declared.Sign.TheVariants.{Plus, Minus}
 use Rattle.actions.specs.Action.{action}
 use Rattle.basement.specs.declared.Basement.{Basement}
 
 -- the exact upper and lower value, V + a·E and V − a·E
 abbrev pub upper_value : Fraction → ℤ → ℕ → SignedFraction
-upper_value a v e = action false a v (pos e)
+upper_value a v e = action Plus a v (pos e)
 
 abbrev pub lower_value : Fraction → ℤ → ℕ → SignedFraction
-lower_value a v e = action true a v (pos e)
+lower_value a v e = action Minus a v (pos e)
 
 -- words: upper, lower, the strength; the bit where upper or minus lower exceeds it
 unfoldable pub basement_row : (bit : ℕ) → Fraction → (v : ℤ) (e strength : ℕ) → Row

@@ -1,12 +1,12 @@
 // Rows of a basement member: 02, No. 9. Every operand is in the range of 01, and every number on the way fits 64 bits.
 #![tactic(auto)]
 
-ghost use Rattle.std.specs.Prelude.{◌≡◌, ◌||◌, ◌≤◌, pos, neg_ℤ};
-ghost use Rattle.std.specs.Int.Signed.{lt_z};
+ghost use Rattle.std.specs.Prelude.{◌≡◌, ◌≤◌, pos};
 ghost use Rattle.coefficient.specs.Coefficient.{fraction};
 ghost use Rattle.actions.specs.Ranges.{ActionRange};
 ghost use Rattle.basement.specs.Basement.{basement_row};
 
+use actions::Sign;
 use claims::Row;
 use coefficient::Quotient;
 
@@ -23,17 +23,6 @@ pub struct Basement {
     pub moment_strength: u32,
 }
 
-// Whether upper or minus lower exceeds the strength.
-fn either_exceeds(upper: i64, lower: i64, strength: u32) -> bool
-    ensures { result ≡ (lt_z (pos strength) upper || lt_z (pos strength) (neg_ℤ lower)) }
-{
-    let limit = claims::word(strength as u64);
-    if limit < upper {
-        return true;
-    }
-    lower < 0 - limit
-}
-
 // B.2 [4]: a value of a basement member, V ± a·E, against its strength: upper and lower, and the bit where one of them exceeds it. A
 // shear has bit 1, a moment bit 2.
 pub fn basement_row(bit: u64, a: Quotient, steady: i32, seismic: u32, strength: u32) -> Row
@@ -41,13 +30,13 @@ pub fn basement_row(bit: u64, a: Quotient, steady: i32, seismic: u32, strength: 
     requires range { ActionRange a steady (pos seismic) }
     ensures { result ≡ basement_row bit (fraction a) steady seismic strength }
 {
-    let upper = actions::action_up(a, steady, seismic as i32, false);
-    let lower = actions::action_down(a, steady, seismic as i32, true);
-    let exceeded = either_exceeds(upper, lower, strength);
+    let upper = actions::action(a, steady, seismic as i32, Sign::Plus).up();
+    let lower = actions::action(a, steady, seismic as i32, Sign::Minus).down();
+    let exceeded = claims::either_exceeds(upper, lower, strength);
     Row {
         word2: upper,
         word3: lower,
-        word4: claims::word(strength as u64),
+        word4: i64::from(strength),
         word5: 0,
         word6: 0,
         verdict: claims::word(claims::flagged(bit, exceeded)),

@@ -1,133 +1,118 @@
--- The loop over a block's sets, over plain values: those before are in range, so the set at fault is among those left. And the set that
--- it finds: the first one out of range, or none. Assumes nothing.
-use mathlib.Core.Bool.{Bool, true, false}
+-- The loop over a block's sets, over plain values: those before are in range, so the operand at fault is among those left. Assumes
+-- nothing.
+use mathlib.Core.Bool.{Bool, true, false, cond}
 use mathlib.Core.List.{List, [], ◌∷◌}
-use mathlib.Core.Path.{◌≡◌, refl, sym, ap, ◌∙◌, subst}
-use Prim.Native.Nat.{ℕ, zero, suc, ◌+◌, ◌-◌, ◌*◌, ◌≤◌, ◌<◌}
+use mathlib.Core.Path.{◌≡◌, refl, sym, ap, ◌∙◌}
+use Prim.Native.Nat.{ℕ, zero, suc, ◌+◌, ◌-◌, ◌*◌, ◌/◌, ◌≤◌, ◌<◌}
+use native.Mathlib.Nat.{not-suc-le-zero, add-zero}
 use native.Mathlib.Omega.{arith}
-use lib.ListN.{length}
+use lib.Dec.{lit≤}
+use lib.ListN.{length, get_or, take, drop, length-drop}
+use lib.Seq.{drop-drop, length-take-le}
+use Rattle.std.specs.Simd.{first_chunks}
+use Rattle.std.specs.Prelude.{Some, None}
 use Rattle.walls.specs.declared.Storey.{Storey}
 use Rattle.format.specs.declared.Command.TheVariants.{Storey as storey}
-use Rattle.format.specs.Commands.{in_range, operand_at_fault}
-use Rattle.blocks.specs.Sets.{storey_at, storeys_at, all_in_range, sets_before_fault, set_at_fault, set_named}
-use Rattle.blocks.proofs.Sets.{storeys_length, first_in_range, first_at_fault, none_named}
+use Rattle.format.specs.Commands.{in_range, operand_at_fault, storey_of, command_of}
+use Rattle.format.proofs.CommandRead.{storey_within}
+use Rattle.layout.specs.Layouts.{operands_width}
+use Rattle.layout.specs.Operands.{operand}
+use Rattle.layout.proofs.Widths.{widths}
+use Rattle.blocks.specs.Sets.{storey_at, storeys_at, all_in_range, set_at_fault, operand_named}
+use Rattle.blocks.proofs.Sets.{first_in_range, first_at_fault, storeys_alone, fault_below}
 
-module _ (s : Storey) (ss : List Storey) where
-  one_before : in_range (storey s) ≡ true → sets_before_fault (s ∷ ss) ≡ 1 + sets_before_fault ss
-  unfolding sets_before_fault
-  one_before h = rw h
+-- a chunk of 24 bytes
+pub chunk : (n : ℕ) (bytes : List ℕ) (i : ℕ) (d : List ℕ) → i < n → get_or (first_chunks 24 n bytes) i d ≡ take 24 (drop (24 * i) bytes)
+chunk zero bytes i d l = absurd (not-suc-le-zero l)
+chunk (suc n) bytes zero d l = refl
+chunk (suc n) bytes (suc i) d l =
+    let more : 24 + 24 * i ≡ 24 * suc i = omega arith in
+    chunk n (drop 24 bytes) i d (omega arith) ∙ ap (λ (b : List ℕ). take 24 b) (drop-drop (24 * i) 24 bytes) ∙ ap (λ (k : ℕ). take 24 (drop k bytes)) more
 
-  none_before : in_range (storey s) ≡ false → sets_before_fault (s ∷ ss) ≡ 0
-  unfolding sets_before_fault
-  none_before h = rw h
+-- the sets that are left
+abbrev left : List ℕ → ℕ → ℕ → List Storey
+left bytes count set = storeys_at (count - set) bytes (24 * set)
 
--- ---- the loop
+pub record Searching (bytes : List ℕ) (count set : ℕ) : Type 0 where
+  pub range : all_in_range (storeys_at count bytes 0) ≡ all_in_range (left bytes count set)
+  pub fault : set_at_fault (storeys_at count bytes 0) ≡ 6 * set + set_at_fault (left bytes count set)
 
--- the sets that are left, the first at `start`
-abbrev left : List ℕ → ℕ → ℕ → ℕ → List Storey
-left job count set start = storeys_at (count - set) job start
+pub search_begins : (bytes : List ℕ) (count : ℕ) → Searching bytes count 0
+search_begins bytes count =
+    let e : storeys_at count bytes 0 ≡ left bytes count 0 = ap (λ (n : ℕ). storeys_at n bytes 0) (omega arith) in
+    record { range = ap all_in_range e; fault = omega (arith, ap set_at_fault e) }
 
-pub record Searching (job : List ℕ) (at count set start : ℕ) : Type 0 where
-  pub within : set ≤ count
-  pub start_is : start ≡ at + 24 * set
-  pub before : sets_before_fault (storeys_at count job at) ≡ set + sets_before_fault (left job count set start)
-
-pub search_begins : (job : List ℕ) (at count : ℕ) → Searching job at count 0 at
-search_begins job at count =
-    let e : storeys_at count job at ≡ left job count 0 at = ap (λ (n : ℕ). storeys_at n job at) (omega arith) in
-    record { within = omega arith; start_is = omega arith; before = omega (arith, ap sets_before_fault e) }
-
-module _ (job : List ℕ) (at count set start : ℕ) (s : Searching job at count set start) where
+module _ (bytes : List ℕ) (count set : ℕ) (s : Searching bytes count set) where
   module _ (l : set < count) where
     -- the next set, and those behind it
-    split : left job count set start ≡ storey_at job start ∷ left job count (set + 1) (start + 24)
+    split : left bytes count set ≡ storey_at bytes (24 * set) ∷ left bytes count (set + 1)
     unfolding storeys_at
     split =
         let e : count - set ≡ suc (count - (set + 1)) = omega arith in
-        ap (λ (n : ℕ). storeys_at n job start) e
+        let next : 24 * set + 24 ≡ 24 * (set + 1) = omega arith in
+        ap (λ (n : ℕ). storeys_at n bytes (24 * set)) e ∙ ap (λ (at : ℕ). storey_at bytes (24 * set) ∷ storeys_at (count - (set + 1)) bytes at) next
 
-    pub searches_on : in_range (storey (storey_at job start)) ≡ true → Searching job at count (set + 1) (start + 24)
+    pub searches_on : in_range (storey (storey_at bytes (24 * set))) ≡ true → Searching bytes count (set + 1)
     searches_on r =
-        record {
-          within = omega arith;
-          start_is = omega (arith, s.start_is);
-          before = omega (arith, s.before, ap sets_before_fault split, one_before (storey_at job start) (left job count (set + 1) (start + 24)) r);
-        }
+        let f = first_in_range (storey_at bytes (24 * set)) (left bytes count (set + 1)) r in
+        record { range = s.range ∙ ap all_in_range split ∙ f.0; fault = omega (arith, s.fault, ap set_at_fault split, f.1) }
 
-    pub search_found : in_range (storey (storey_at job start)) ≡ false → set ≡ sets_before_fault (storeys_at count job at)
-    search_found r = omega (arith, s.before, ap sets_before_fault split, none_before (storey_at job start) (left job count (set + 1) (start + 24)) r)
+    pub search_found : in_range (storey (storey_at bytes (24 * set))) ≡ false → (n : ℕ) → n ≡ 1 + 6 * set + operand_at_fault (storey (storey_at bytes (24 * set))) → Some n ≡ operand_named (storeys_at count bytes 0)
+    unfolding operand_named
+    search_found r n e =
+        let f = first_at_fault (storey_at bytes (24 * set)) (left bytes count (set + 1)) r in
+        let out : all_in_range (storeys_at count bytes 0) ≡ false = s.range ∙ ap all_in_range split ∙ f.0 in
+        let m : n ≡ 1 + set_at_fault (storeys_at count bytes 0) = omega (arith, e, s.fault, ap set_at_fault split, f.1) in
+        rw (out, m)
 
-  -- none is left
-  pub search_ends : count ≤ set → set ≡ sets_before_fault (storeys_at count job at)
-  unfolding storeys_at sets_before_fault
-  search_ends l =
+  all_ranged : count ≤ set → all_in_range (storeys_at count bytes 0) ≡ true
+  unfolding storeys_at all_in_range
+  all_ranged l =
       let e : count - set ≡ 0 = omega arith in
-      omega (arith, s.before, ap (λ (n : ℕ). sets_before_fault (storeys_at n job start)) e)
+      s.range ∙ ap (λ (n : ℕ). all_in_range (storeys_at n bytes (24 * set))) e
 
--- ---- the set that it finds
+  pub search_ends : count ≤ set → None ≡ operand_named (storeys_at count bytes 0)
+  unfolding operand_named
+  search_ends l = rw (all_ranged l)
 
--- the set at an offset is out of range, and the operand at fault is its, behind those of so many sets
-pub record Faulty (ss : List Storey) (job : List ℕ) (start set : ℕ) : Type 0 where
-  pub out : in_range (storey (storey_at job start)) ≡ false
-  pub some_out : all_in_range ss ≡ false
-  pub fault : set_at_fault ss ≡ 6 * set + operand_at_fault (storey (storey_at job start))
+-- ---- the set of a chunk
 
--- one set in range before it
-further : (s : Storey) (ss : List Storey) (job : List ℕ) (start set : ℕ) → in_range (storey s) ≡ true → Faulty ss job start set → Faulty (s ∷ ss) job start (1 + set)
-further s ss job start set h f =
-    let e = first_in_range s ss h in
-    record { out = f.out; some_out = e.0 ∙ f.some_out; fault = omega (arith, e.1, f.fault) }
+module _ (bytes : List ℕ) (chunks : List (List ℕ)) (set : ℕ) (f : chunks ≡ first_chunks 24 (length bytes / 24) bytes) (n : length chunks ≡ length bytes / 24) (l : set < length chunks) where
+  pub below : set < length bytes / 24
+  below = omega (arith, n)
 
-faulty_step : (s : Storey) (ss : List Storey) (job : List ℕ) (start set : ℕ) → (in_range (storey s) ≡ true → (set : ℕ) → sets_before_fault (s ∷ ss) ≡ 1 + set → Faulty ss job start set) →
-    (in_range (storey s) ≡ false → s ≡ storey_at job start) → set ≡ sets_before_fault (s ∷ ss) → Faulty (s ∷ ss) job start set
-faulty_step s ss job start set later first e = by (in_range (storey s)) refl
-  where
-    by : (b : Bool) → in_range (storey s) ≡ b → Faulty (s ∷ ss) job start set
-    by true h =
-        let k = one_before s ss h in
-        rw (e ∙ k) (further s ss job start (sets_before_fault ss) h (later h (sets_before_fault ss) k))
-    by false h =
-        let f = first_at_fault s ss h in
-        let o = first h in
-        record { out = ap (λ (x : Storey). in_range (storey x)) (sym o) ∙ h; some_out = f.0; fault = f.1 ∙ omega (arith, e, none_before s ss h, ap (λ (x : Storey). operand_at_fault (storey x)) o) }
+  room : 24 * set + 24 ≤ length bytes
+  room = omega (arith, below)
 
-pub faulty_at : (n : ℕ) (job : List ℕ) (at start : ℕ) → start ≡ at + 24 * sets_before_fault (storeys_at n job at) → sets_before_fault (storeys_at n job at) < n →
-    Faulty (storeys_at n job at) job start (sets_before_fault (storeys_at n job at))
-unfolding storeys_at
-faulty_at zero job at start e l = absurd (never (sets_before_fault (storeys_at 0 job at)) l)
-  where
-    never : (k : ℕ) → k < 0 → ⊥
-    never k l = omega arith
-faulty_at (suc n) job at start e l =
-    let s = storey_at job at in
-    let ss = storeys_at n job (at + 24) in
-    faulty_step s ss job start (sets_before_fault (s ∷ ss))
-    (λ h set k. subst (Faulty ss job start) (omega (arith, k, one_before s ss h)) (faulty_at n job (at + 24) start (omega (arith, e, one_before s ss h)) (omega (arith, l, one_before s ss h))))
-    (λ h. ap (storey_at job) (at_first h)) refl
-  where
-    at_first : in_range (storey (storey_at job at)) ≡ false → at ≡ start
-    at_first h = omega (arith, e, none_before (storey_at job at) (storeys_at n job (at + 24)) h)
+  here : get_or chunks set [] ≡ take 24 (drop (24 * set) bytes)
+  here = rw f (chunk (length bytes / 24) bytes set [] below)
 
--- the sets before are some of them; where they are all, each is in range
-before_each : (s : Storey) (ss : List Storey) → (sets_before_fault ss ≤ length ss) × (sets_before_fault ss ≡ length ss → all_in_range ss ≡ true) →
-    (sets_before_fault (s ∷ ss) ≤ suc (length ss)) × (sets_before_fault (s ∷ ss) ≡ suc (length ss) → all_in_range (s ∷ ss) ≡ true)
-before_each s ss (m, a) = by (in_range (storey s)) refl
-  where
-    none : (n : ℕ) → 0 ≡ suc n → ⊥
-    none n e = omega arith
+  pub width_here : length (get_or chunks set []) ≡ operands_width 7
+  width_here = rw (here, widths.storey) (length-take-le 24 (drop (24 * set) bytes) (rw (length-drop (24 * set) bytes) (omega (arith, room))))
 
-    by : (b : Bool) → in_range (storey s) ≡ b → (sets_before_fault (s ∷ ss) ≤ suc (length ss)) × (sets_before_fault (s ∷ ss) ≡ suc (length ss) → all_in_range (s ∷ ss) ≡ true)
-    by true h = let k = one_before s ss h in (omega (arith, k, m), λ e. (first_in_range s ss h).0 ∙ a (omega (arith, e, k)))
-    by false h = let k = none_before s ss h in (omega (arith, k), λ e. absurd (none (length ss) (sym k ∙ e)))
+  made : command_of 7 (operand 7 (get_or chunks set []) 0) ≡ storey (storey_at bytes (24 * set))
+  unfolding command_of storey_at
+  made =
+      ap (λ (b : List ℕ). command_of 7 (operand 7 b 0)) here
+      ∙ ap (λ (s : Storey). storey s) (storey_within bytes (24 * set) 0 24 (lit≤ tt) ∙ ap (λ (at : ℕ). storey_of (operand 7 bytes at)) (add-zero (24 * set)))
 
-before_all : (ss : List Storey) → (sets_before_fault ss ≤ length ss) × (sets_before_fault ss ≡ length ss → all_in_range ss ≡ true)
-unfolding sets_before_fault all_in_range
-before_all [] = (omega arith, λ e. refl)
-before_all (s ∷ ss) = before_each s ss (before_all ss)
+  pub storey_here : {s : Storey} → storey s ≡ command_of 7 (operand 7 (get_or chunks set []) 0) → s ≡ storey_at bytes (24 * set)
+  storey_here {s} h =
+      let e : storey s ≡ storey (storey_at bytes (24 * set)) = h ∙ made in
+      cc
 
-module _ (n : ℕ) (job : List ℕ) (at : ℕ) where
-  pub before_most : sets_before_fault (storeys_at n job at) ≤ n
-  before_most = omega (arith, (before_all (storeys_at n job at)).0, storeys_length n job at)
+  pub range_here : {s : Storey} {t b : Bool} → storey s ≡ command_of 7 (operand 7 (get_or chunks set []) 0) → t ≡ in_range (storey s) → t ≡ b → in_range (storey (storey_at bytes (24 * set))) ≡ b
+  range_here {s} {t} {b} h e q = ap (λ (x : Storey). in_range (storey x)) (sym (storey_here h)) ∙ sym e ∙ q
 
-  pub all_named : sets_before_fault (storeys_at n job at) ≡ n → set_named (storeys_at n job at) ≡ 0
-  all_named e = none_named (storeys_at n job at) ((before_all (storeys_at n job at)).1 (e ∙ sym (storeys_length n job at)))
+  pub fault_here : (r : ℕ) → r ≡ operand_at_fault (command_of 7 (operand 7 (get_or chunks set []) 0)) → r ≡ operand_at_fault (storey (storey_at bytes (24 * set)))
+  fault_here r e = e ∙ ap operand_at_fault made
+
+  pub named_fits : (r : ℕ) → r ≡ operand_at_fault (command_of 7 (operand 7 (get_or chunks set []) 0)) → length bytes ≤ 1536 → 1 + 6 * set + r < 4294967296
+  named_fits r e h = omega (arith, below, fault_here r e, fault_below (storey_at bytes (24 * set)))
+
+-- the sets of a part of the bytes
+pub part_sets : (job : List ℕ) (at count n : ℕ) → n ≡ 24 * count → at + 24 * count ≤ length job → storeys_at (length (take n (drop at job)) / 24) (take n (drop at job)) 0 ≡ storeys_at count job at
+part_sets job at count n e h =
+    let w : length (take n (drop at job)) ≡ n = length-take-le n (drop at job) (rw (length-drop at job) (omega arith)) in
+    let q : length (take n (drop at job)) / 24 ≡ count = omega (arith, w) in
+    ap (λ (k : ℕ). storeys_at k (take n (drop at job)) 0) q ∙ storeys_alone count job at 0 n (omega arith) ∙ ap (λ (k : ℕ). storeys_at count job k) (add-zero at)

@@ -2,11 +2,12 @@
 use mathlib.Core.Bool.{Bool, true, false, cond}
 use mathlib.Core.List.{List, ◌∷◌}
 use mathlib.Core.Path.{◌≡◌, refl, sym, ap, ◌∙◌}
-use Prim.Native.Nat.{ℕ, zero, suc, ◌+◌, ◌≤◌, ◌<◌}
+use Prim.Native.Nat.{ℕ, zero, suc, ◌+◌, ◌*◌, ◌≤◌, ◌<◌}
 use native.Mathlib.Omega.{arith}
 use lib.Dec.{lit<, leb, ltb}
-use lib.ListN.{length}
+use lib.ListN.{length, take, drop}
 use borrow.Author.Tests.{leb-true, ltb-true}
+use Rattle.std.specs.Prelude.{Some, None}
 use Rattle.quantity.specs.Range.{within}
 use Rattle.layout.specs.Forms.{width}
 use Rattle.layout.specs.Layouts.{forms_of, forms_in}
@@ -16,8 +17,9 @@ use Rattle.walls.specs.declared.Storey.{Storey}
 use Rattle.format.specs.declared.Command.TheVariants.{Storey as storey}
 use Rattle.format.specs.Commands.{operands_of, in_range, first_outside, relation_names, operand_at_fault}
 use Rattle.format.proofs.RangeTest.{and_first, and_second}
+use Rattle.format.proofs.CommandRead.{storey_within}
 use Rattle.format.proofs.Scan.{Scanned}
-use Rattle.blocks.specs.Sets.{count_in_range, storey_at, storeys_at, all_in_range, set_at_fault, set_named}
+use Rattle.blocks.specs.Sets.{count_in_range, storey_at, storeys_at, all_in_range, set_at_fault, operand_named}
 
 -- a count in range is one of 1 to 64
 pub count_range : (n : ℕ) → count_in_range n ≡ true → (1 ≤ n) × (n ≤ 64)
@@ -44,6 +46,14 @@ storey_scanned job start =
         operand_at 7 job start 5 (lit< tt),
       );
     }
+
+-- sets read from their bytes alone
+pub storeys_alone : (n : ℕ) (job : List ℕ) (from at w : ℕ) → at + 24 * n ≤ w → storeys_at n (take w (drop from job)) at ≡ storeys_at n job (from + at)
+unfolding storeys_at storey_at
+storeys_alone zero job from at w h = refl
+storeys_alone (suc n) job from at w h =
+    let e : from + (at + 24) ≡ from + at + 24 = omega arith in
+    rw (storey_within job from at w (omega arith), storeys_alone n job from (at + 24) w (omega arith), e)
 
 -- the operand at fault of a set is one of its six
 pub fault_below : (s : Storey) → operand_at_fault (storey s) < 6
@@ -74,21 +84,20 @@ module _ (s : Storey) (ss : List Storey) where
 
 -- ---- the operand named
 
-pub none_named : (ss : List Storey) → all_in_range ss ≡ true → set_named ss ≡ 0
-unfolding set_named
-none_named ss h = rw h
-
-pub one_named : (ss : List Storey) → all_in_range ss ≡ false → set_named ss ≡ 1 + set_at_fault ss
-unfolding set_named
-one_named ss h = rw h
-
 -- none is named: each is in range
-pub sets_ranged : (ss : List Storey) (named : ℕ) → named ≡ set_named ss → named ≡ 0 → all_in_range ss ≡ true
-sets_ranged ss named e z = by (all_in_range ss) refl
+pub sets_ranged : (ss : List Storey) → None ≡ operand_named ss → all_in_range ss ≡ true
+unfolding operand_named
+sets_ranged ss e = by (all_in_range ss) refl e
   where
-    none : (k : ℕ) → 0 ≡ 1 + k → ⊥
-    none k q = omega arith
+    by : (k : Bool) → all_in_range ss ≡ k → None ≡ cond k None (Some (1 + set_at_fault ss)) → all_in_range ss ≡ true
+    by true q h = q
+    by false q h = cc
 
-    by : (k : Bool) → all_in_range ss ≡ k → all_in_range ss ≡ true
-    by true q = q
-    by false q = absurd (none _ (sym z ∙ e ∙ one_named ss q))
+-- one is named: a set is out of range, and it is the operand at fault
+pub set_found : (ss : List Storey) (n : ℕ) → Some n ≡ operand_named ss → (all_in_range ss ≡ false) × (1 + set_at_fault ss ≡ n)
+unfolding operand_named
+set_found ss n e = by (all_in_range ss) refl e
+  where
+    by : (k : Bool) → all_in_range ss ≡ k → Some n ≡ cond k None (Some (1 + set_at_fault ss)) → (all_in_range ss ≡ false) × (1 + set_at_fault ss ≡ n)
+    by true q h = cc
+    by false q h = let i : 1 + set_at_fault ss ≡ n = cc in (q, i)

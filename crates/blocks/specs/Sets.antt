@@ -1,5 +1,5 @@
 -- A block of storeys. 02, No. 7: "New command 0B has a count (u8, 1 to 64) and then that many sets of storey operands, 24 bytes each."
-use Rattle.std.specs.Prelude.{Bool, true, ◌&&◌, cond, List, [], ◌∷◌, ℕ, zero, suc, ◌+◌, eqb}
+use Rattle.std.specs.Prelude.{Bool, true, ◌&&◌, cond, List, [], ◌∷◌, ℕ, zero, suc, ◌+◌, eqb, Option, Some, None}
 use Rattle.quantity.specs.Range.{within}
 use Rattle.layout.specs.Forms.{to}
 use Rattle.layout.specs.Operands.{operand, byte_at}
@@ -39,19 +39,13 @@ unfolding in_range
 all_in_range [] = true
 all_in_range (s ∷ ss) = in_range (storey s) && all_in_range ss
 
--- how many sets stand before the first one out of range; all of them where there is none
-unfoldable pub sets_before_fault : List Storey → ℕ
-unfolding in_range
-sets_before_fault [] = 0
-sets_before_fault (s ∷ ss) = cond (in_range (storey s)) (1 + sets_before_fault ss) 0
-
 -- the operand at fault among these sets, six a set, counted from 0: that of the first set out of range
 unfoldable pub set_at_fault : List Storey → ℕ
 unfolding in_range operand_at_fault
 set_at_fault [] = 0
 set_at_fault (s ∷ ss) = cond (in_range (storey s)) (6 + set_at_fault ss) (operand_at_fault (storey s))
 
--- the same counted from 1, and 0 where every set is in range
-unfoldable pub set_named : List Storey → ℕ
+-- the same counted from 1; none where every set is in range
+unfoldable pub operand_named : List Storey → Option ℕ
 unfolding all_in_range set_at_fault
-set_named ss = cond (all_in_range ss) 0 (1 + set_at_fault ss)
+operand_named ss = cond (all_in_range ss) None (Some (1 + set_at_fault ss))

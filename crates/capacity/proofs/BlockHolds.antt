@@ -1,7 +1,7 @@
 -- What demand 3 claims of a storey holds for every storey of every block of an accepted job. 02, No. 7. Assumes nothing.
 use mathlib.Core.Path.{◌≡◌, refl, sym, ap, ◌∙◌, subst}
 use mathlib.Core.List.{List, [], ◌∷◌, ◌++◌, append_assoc}
-use mathlib.Core.Option.{some}
+use Rattle.std.specs.Prelude.{Some}
 use Prim.Native.Nat.{ℕ, ◌+◌, ◌*◌, ◌≤◌}
 use native.Mathlib.Omega.{arith}
 use borrow.Author.Tests.{le-leb}
@@ -56,11 +56,11 @@ record Split (h : Context) (at : ℕ) (first : List Storey) (s : Storey) (rest :
   pub rows : length (all_rows sets) ≡ length first
 
 -- a storey has one row where settings and a base are given
-one_row : (h : Context) (at : ℕ) (settings : Settings) (base : WallBase) → h.settings ≡ some settings → h.wall ≡ some base → (s : Storey) → length (rows_at (record { offset = at; command = storey s; context = h })) ≡ 1
+one_row : (h : Context) (at : ℕ) (settings : Settings) (base : WallBase) → h.settings ≡ Some settings → h.wall ≡ Some base → (s : Storey) → length (rows_at (record { offset = at; command = storey s; context = h })) ≡ 1
 unfolding rows_of rows_with
 one_row h at settings base e w s = rw (e, w)
 
-split : (h : Context) (settings : Settings) (base : WallBase) → h.settings ≡ some settings → h.wall ≡ some base → (at : ℕ) (first : List Storey) (s : Storey) (rest : List Storey) → Split h at first s rest
+split : (h : Context) (settings : Settings) (base : WallBase) → h.settings ≡ Some settings → h.wall ≡ Some base → (at : ℕ) (first : List Storey) (s : Storey) (rest : List Storey) → Split h at first s rest
 unfolding next all_rows
 split h settings base e w at [] s rest =
     let z : at ≡ at + 24 * 0 = omega arith in
@@ -82,7 +82,7 @@ split h settings base e w at (t ∷ first) s rest =
     }
 
 -- its claims
-storey_claim : (words : List ℤ) (n at : ℕ) (h : Context) (s : Storey) (settings : Settings) (base : WallBase) → h.settings ≡ some settings → h.wall ≡ some base →
+storey_claim : (words : List ℤ) (n at : ℕ) (h : Context) (s : Storey) (settings : Settings) (base : WallBase) → h.settings ≡ Some settings → h.wall ≡ Some base →
     RowsHold words n (claims_of (record { offset = at; command = storey s; context = h })) → Hold (storey_claims settings.behaviour base s (row_read words n))
 unfolding claims_of claims_with RowsHold
 storey_claim words n at h s settings base e w r = (rw (e, w) at r).0

@@ -7,6 +7,7 @@ pub mod RowsSized
 mod Whole
 mod Written
 mod Runs
+mod WrittenRun
 pub mod Numbers
 mod RowRead
 pub mod SameWords

@@ -2,7 +2,7 @@
 use mathlib.Core.Path.{◌≡◌, refl, sym, ◌∙◌, subst}
 use mathlib.Core.Bool.{true}
 use mathlib.Core.List.{List, [], ◌∷◌, ◌++◌}
-use mathlib.Core.Option.{some, some-injective, none-ne-some}
+use Rattle.std.specs.Prelude.{None, Some}
 use Prim.Native.Nat.{ℕ, zero, suc, ◌+◌}
 use native.Mathlib.Decide.{ℕ_discrete}
 use borrow.Author.Tests.{eq-eqb, ne_eqb}
@@ -11,7 +11,7 @@ use Rattle.members.specs.declared.Joint.{Joint}
 use Rattle.members.specs.Hingeless.{JointRange}
 use Rattle.walls.specs.declared.WallBase.{WallBase}
 use Rattle.format.specs.declared.Command.{Command}
-use Rattle.format.specs.declared.Command.TheVariants.{Finish as finish, Settings as settings, Joint as joint, Column as column, Beam as beam, Hingeless as hingeless, WallBase as wall_base, Storey as storey, Soil as soil, Footing as footing, Detail as detail}
+use Rattle.format.specs.declared.Command.TheVariants.{Settings as settings, Joint as joint, WallBase as wall_base, Soil as soil}
 use Rattle.format.specs.Commands.{in_range}
 use Rattle.format.specs.Types.{OfTypes}
 use Rattle.layout.proofs.Numbers.{Bytes}
@@ -26,39 +26,39 @@ use Rattle.job.proofs.Faultless.{Chained, passed}
 
 -- what holds is in range
 pub record ContextRange (h : Context) : Type 0 where
-  pub settings : (s : Settings) → h.settings ≡ some s → SettingsRange s
-  pub joints : (id : ℕ) (j : Joint) → h.joints id ≡ some j → JointRange j
-  pub wall : (b : WallBase) → h.wall ≡ some b → in_range (wall_base b) ≡ true
+  pub settings : (s : Settings) → h.settings ≡ Some s → SettingsRange s
+  pub joints : (id : ℕ) (j : Joint) → h.joints id ≡ Some j → JointRange j
+  pub wall : (b : WallBase) → h.wall ≡ Some b → in_range (wall_base b) ≡ true
+
+no_some : {A : Type 0} (a : A) → None ≡ Some a → ⊥
+no_some a e = cc
+
+same_some : {A : Type 0} (a b : A) → Some a ≡ Some b → a ≡ b
+same_some a b e = cc
 
 -- ---- what holds stays in range
 
 nothing_range : ContextRange nothing
 nothing_range =
     record {
-      settings = λ s e. absurd (none-ne-some s e);
-      joints = λ id j e. absurd (none-ne-some j e);
-      wall = λ b e. absurd (none-ne-some b e);
+      settings = λ s e. absurd (no_some s e);
+      joints = λ id j e. absurd (no_some j e);
+      wall = λ b e. absurd (no_some b e);
     }
 
 next_range : (h : Context) (c : Command) → ContextRange h → in_range c ≡ true → ContextRange (next h c)
 unfolding next
-next_range h finish r i = r
 next_range h (settings s) r i =
-    record { settings = λ t e. subst SettingsRange (some-injective s t e) (settings_range s i); joints = r.joints; wall = r.wall }
+    record { settings = λ t e. subst SettingsRange (same_some s t e) (settings_range s i); joints = r.joints; wall = r.wall }
 next_range h (joint id j) r i = record { settings = r.settings; joints = λ k x e. each k x (ℕ_discrete k id) e; wall = r.wall }
   where
-    each : (k : ℕ) (x : Joint) → Dec (k ≡ id) → with_joint id j h.joints k ≡ some x → JointRange x
-    each k x (yes q) e = subst JointRange (some-injective j x (sym (rw (eq-eqb k id q) refl) ∙ e)) (joint_range id j i)
+    each : (k : ℕ) (x : Joint) → Dec (k ≡ id) → with_joint id j h.joints k ≡ Some x → JointRange x
+    each k x (yes q) e = subst JointRange (same_some j x (sym (rw (eq-eqb k id q) refl) ∙ e)) (joint_range id j i)
     each k x (no q) e = r.joints k x (sym (rw (ne_eqb k id q) refl) ∙ e)
-next_range h (column c) r i = r
-next_range h (beam b) r i = r
-next_range h (hingeless id1 id2 m) r i = r
 next_range h (wall_base b) r i =
-    record { settings = r.settings; joints = r.joints; wall = λ c e. subst (λ (x : WallBase). in_range (wall_base x) ≡ true) (some-injective b c e) i }
-next_range h (storey s) r i = r
+    record { settings = r.settings; joints = r.joints; wall = λ c e. subst (λ (x : WallBase). in_range (wall_base x) ≡ true) (same_some b c e) i }
 next_range h (soil s) r i = record { settings = r.settings; joints = r.joints; wall = r.wall }
-next_range h (footing f) r i = r
-next_range h (detail d) r i = r
+next_range h _ r i = r
 
 -- ---- every placed command
 

@@ -4,7 +4,7 @@
 use mathlib.Core.Path.{◌≡◌, refl, sym, ap, ◌∙◌}
 use mathlib.Core.Bool.{Bool, true, false, not, ◌||◌, cond}
 use mathlib.Core.List.{List, [], ◌∷◌, ◌++◌, append_assoc}
-use mathlib.Core.Option.{some}
+use Rattle.std.specs.Prelude.{Some}
 use Prim.Native.Nat.{ℕ, ◌*◌, ◌≤◌}
 use borrow.Author.Tests.{le-leb}
 use lib.Dec.{T, eqb, leb, T_not}
@@ -64,9 +64,9 @@ pub record Counted (earlier : List Placed) (p : Placed) (id1 id2 : ℕ) (m : Hin
   pub settings : Settings
   pub joint1 : Joint
   pub joint2 : Joint
-  pub by_settings : p.context.settings ≡ some settings
-  pub latest1 : latest_joint id1 earlier ≡ some joint1
-  pub latest2 : latest_joint id2 earlier ≡ some joint2
+  pub by_settings : p.context.settings ≡ Some settings
+  pub latest1 : latest_joint id1 earlier ≡ Some joint1
+  pub latest2 : latest_joint id2 earlier ≡ Some joint2
   pub rows : rows_at p ≡ words p.offset 5 (hingeless_row settings joint1 joint2 m) ∷ []
   pub claims : claims_of p ≡ (λ r. Hold (hingeless_claims settings joint1 joint2 m r)) ∷ []
 
@@ -75,7 +75,7 @@ neither true b e = absurd (differ e)
 neither false b e = (refl, e)
 
 module _ (p : Placed) (s : Settings) (i j : Joint) (id1 id2 : ℕ) (m : Hingeless)
-    (c : p.command ≡ hingeless id1 id2 m) (es : p.context.settings ≡ some s) (ei : p.context.joints id1 ≡ some i) (ej : p.context.joints id2 ≡ some j) where
+    (c : p.command ≡ hingeless id1 id2 m) (es : p.context.settings ≡ Some s) (ei : p.context.joints id1 ≡ Some i) (ej : p.context.joints id2 ≡ Some j) where
   rows_made : rows_at p ≡ words p.offset 5 (hingeless_row s i j m) ∷ []
   unfolding rows_of rows_with
   rows_made = rw (c, es, ei, ej)

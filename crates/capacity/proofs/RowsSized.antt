@@ -1,8 +1,9 @@
 -- How large the words of the rows of every placed command are. Assumes nothing.
+use Rattle.actions.specs.declared.Sign.TheVariants.{Plus, Minus}
 use mathlib.Core.Path.{◌≡◌, refl}
-use mathlib.Core.Bool.{true, false}
+use mathlib.Core.Bool.{true}
 use mathlib.Core.List.{[], ◌∷◌}
-use mathlib.Core.Option.{Option, none, some}
+use Rattle.std.specs.Prelude.{Option, None, Some}
 use Rattle.coefficient.specs.declared.Settings.{Settings}
 use Rattle.claims.specs.Sizes.{AllSized}
 use Rattle.members.specs.declared.Joint.{Joint}
@@ -19,7 +20,8 @@ use Rattle.format.specs.declared.Command.TheVariants.{Finish as finish, Settings
 use Rattle.format.specs.Commands.{in_range}
 use Rattle.format.specs.Types.{OfTypes}
 use Rattle.context.specs.Running.{SettingsRange}
-use Rattle.context.specs.Context.{Context, Ground, when_given}
+use Rattle.context.specs.declared.Ground.{Ground}
+use Rattle.context.specs.Context.{Context, when_given}
 use Rattle.context.proofs.Ranges.{column_range, beam_range, hingeless_range, wall_base_range, storey_range, footing_range, detail_range}
 use Rattle.rows.specs.Rows.{rows_of, rows_with}
 use Rattle.job.specs.Placed.{Placed}
@@ -35,31 +37,31 @@ module _ (h : Context) (s : Settings) (range : ContextRange h) (r : SettingsRang
   with_settings_lem (beam b) i f = (beam_sized s.behaviour b (beam_range s r b f i), tt)
   with_settings_lem (hingeless id1 id2 m) i f = two_joints (h.joints id1) (h.joints id2) (range.joints id1) (range.joints id2)
     where
-      two_joints : (o1 o2 : Option Joint) → ((j : Joint) → o1 ≡ some j → JointRange j) → ((j : Joint) → o2 ≡ some j → JointRange j) →
+      two_joints : (o1 o2 : Option Joint) → ((j : Joint) → o1 ≡ Some j → JointRange j) → ((j : Joint) → o2 ≡ Some j → JointRange j) →
           AllSized (when_given o1 (λ i. when_given o2 (λ j. hingeless_row s i j m ∷ [])))
-      two_joints none o2 r1 r2 = tt
-      two_joints (some j1) none r1 r2 = tt
-      two_joints (some j1) (some j2) r1 r2 = (hingeless_sized s j1 j2 m (hingeless_range s r j1 j2 (r1 j1 refl) (r2 j2 refl) id1 id2 m f.2 i), tt)
-  with_settings_lem (wall_base b) i f = (base_sized s.behaviour b (wall_base_range s r b i), tt)
-  with_settings_lem (storey x) i f = of_wall h.wall (λ b e. wall_base_range s r b (range.wall b e))
+      two_joints None o2 r1 r2 = tt
+      two_joints (Some j1) None r1 r2 = tt
+      two_joints (Some j1) (Some j2) r1 r2 = (hingeless_sized s j1 j2 m (hingeless_range s r j1 j2 (r1 j1 refl) (r2 j2 refl) id1 id2 m f.2 i), tt)
+  with_settings_lem (wall_base b) i f = (base_sized s.behaviour b (wall_base_range s.behaviour r.behaviour b i), tt)
+  with_settings_lem (storey x) i f = of_wall h.wall (λ b e. wall_base_range s.behaviour r.behaviour b (range.wall b e))
     where
-      of_wall : (o : Option WallBase) → ((b : WallBase) → o ≡ some b → WallBaseRange s.behaviour b) → AllSized (when_given o (λ b. storey_row s.behaviour b x ∷ []))
-      of_wall none w = tt
-      of_wall (some b) w = (storey_sized s.behaviour b x (w b refl) (storey_range x i), tt)
+      of_wall : (o : Option WallBase) → ((b : WallBase) → o ≡ Some b → WallBaseRange s.behaviour b) → AllSized (when_given o (λ b. storey_row s.behaviour b x ∷ []))
+      of_wall None w = tt
+      of_wall (Some b) w = (storey_sized s.behaviour b x (w b refl) (storey_range x i), tt)
   with_settings_lem (soil x) i f = tt
   with_settings_lem (footing x) i f = on_ground h.ground
     where
-      on_ground : (o : Option Ground) → AllSized (when_given o (λ g. footing_row s x g.soil g.sensitive false ∷ footing_row s x g.soil g.sensitive true ∷ []))
-      on_ground none = tt
-      on_ground (some g) =
+      on_ground : (o : Option Ground) → AllSized (when_given o (λ g. footing_row s x g.soil g.sensitive Plus ∷ footing_row s x g.soil g.sensitive Minus ∷ []))
+      on_ground None = tt
+      on_ground (Some g) =
           let ranged = footing_range s r x f i in
-          (footing_sized s x false ranged g.soil g.sensitive, (footing_sized s x true ranged g.soil g.sensitive, tt))
+          (footing_sized s x Plus ranged g.soil g.sensitive, (footing_sized s x Minus ranged g.soil g.sensitive, tt))
   with_settings_lem (detail d) i f = (detail_sized d (detail_range d i), tt)
 
 pub rows_sized : (p : Placed) → Good p → AllSized (rows_of p.context p.command)
 unfolding rows_of
 rows_sized p g = given_settings p.context.settings g.context.settings
   where
-    given_settings : (o : Option Settings) → ((s : Settings) → o ≡ some s → SettingsRange s) → AllSized (when_given o (λ s. rows_with p.context s p.command))
-    given_settings none r = tt
-    given_settings (some s) r = with_settings_lem p.context s g.context (r s refl) p.command g.range g.types
+    given_settings : (o : Option Settings) → ((s : Settings) → o ≡ Some s → SettingsRange s) → AllSized (when_given o (λ s. rows_with p.context s p.command))
+    given_settings None r = tt
+    given_settings (Some s) r = with_settings_lem p.context s g.context (r s refl) p.command g.range g.types

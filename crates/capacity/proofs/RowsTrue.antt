@@ -1,8 +1,9 @@
 -- The claims of every placed command hold of its rows as the specification has them. Assumes nothing.
+use Rattle.actions.specs.declared.Sign.TheVariants.{Plus, Minus}
 use mathlib.Core.Path.{◌≡◌, refl}
-use mathlib.Core.Bool.{true, false}
+use mathlib.Core.Bool.{true}
 use mathlib.Core.List.{List, [], ◌∷◌}
-use mathlib.Core.Option.{Option, none, some}
+use Rattle.std.specs.Prelude.{Option, None, Some}
 use Rattle.coefficient.specs.declared.Settings.{Settings}
 use Rattle.claims.specs.declared.Row.{Row}
 use Rattle.claims.specs.Claims.{Hold}
@@ -22,7 +23,8 @@ use Rattle.format.specs.declared.Command.TheVariants.{Finish as finish, Settings
 use Rattle.format.specs.Commands.{in_range}
 use Rattle.context.specs.Running.{SettingsRange}
 use Rattle.context.proofs.Ranges.{column_range, beam_range, hingeless_range, storey_range, footing_range, detail_range}
-use Rattle.context.specs.Context.{Context, Ground, when_given}
+use Rattle.context.specs.declared.Ground.{Ground}
+use Rattle.context.specs.Context.{Context, when_given}
 use Rattle.rows.specs.Rows.{rows_of, rows_with}
 use Rattle.job.specs.Placed.{Placed}
 use Rattle.capacity.specs.DemandThree.{Claim, footing_claim, claims_of, claims_with}
@@ -46,33 +48,33 @@ module _ (h : Context) (s : Settings) (range : ContextRange h) (r : SettingsRang
   with_settings_lem (beam b) i f = (beam_holds s.behaviour b (beam_range s r b f i), tt)
   with_settings_lem (hingeless id1 id2 m) i f = two_joints (h.joints id1) (h.joints id2) (range.joints id1) (range.joints id2)
     where
-      two_joints : (o1 o2 : Option Joint) → ((j : Joint) → o1 ≡ some j → JointRange j) → ((j : Joint) → o2 ≡ some j → JointRange j) →
+      two_joints : (o1 o2 : Option Joint) → ((j : Joint) → o1 ≡ Some j → JointRange j) → ((j : Joint) → o2 ≡ Some j → JointRange j) →
           Pairwise (when_given o1 (λ i. when_given o2 (λ j. (λ r. Hold (hingeless_claims s i j m r)) ∷ []))) (when_given o1 (λ i. when_given o2 (λ j. hingeless_row s i j m ∷ [])))
-      two_joints none o2 r1 r2 = tt
-      two_joints (some j1) none r1 r2 = tt
-      two_joints (some j1) (some j2) r1 r2 = (hingeless_holds s j1 j2 m (hingeless_range s r j1 j2 (r1 j1 refl) (r2 j2 refl) id1 id2 m f.2 i), tt)
+      two_joints None o2 r1 r2 = tt
+      two_joints (Some j1) None r1 r2 = tt
+      two_joints (Some j1) (Some j2) r1 r2 = (hingeless_holds s j1 j2 m (hingeless_range s r j1 j2 (r1 j1 refl) (r2 j2 refl) id1 id2 m f.2 i), tt)
   with_settings_lem (wall_base b) i f = (base_holds s.behaviour b, tt)
   with_settings_lem (storey x) i f = of_wall h.wall
     where
       of_wall : (o : Option WallBase) → Pairwise (when_given o (λ b. (λ r. Hold (storey_claims s.behaviour b x r)) ∷ [])) (when_given o (λ b. storey_row s.behaviour b x ∷ []))
-      of_wall none = tt
-      of_wall (some b) = (storey_holds s.behaviour b x (storey_range x i), tt)
+      of_wall None = tt
+      of_wall (Some b) = (storey_holds s.behaviour b x (storey_range x i), tt)
   with_settings_lem (soil x) i f = tt
   with_settings_lem (footing x) i f = on_ground h.ground
     where
       on_ground : (o : Option Ground) →
-          Pairwise (when_given o (λ g. footing_claim s x g false ∷ footing_claim s x g true ∷ [])) (when_given o (λ g. footing_row s x g.soil g.sensitive false ∷ footing_row s x g.soil g.sensitive true ∷ []))
-      on_ground none = tt
-      on_ground (some g) =
+          Pairwise (when_given o (λ g. footing_claim s x g Plus ∷ footing_claim s x g Minus ∷ [])) (when_given o (λ g. footing_row s x g.soil g.sensitive Plus ∷ footing_row s x g.soil g.sensitive Minus ∷ []))
+      on_ground None = tt
+      on_ground (Some g) =
           let ranged = footing_range s r x f i in
-          (footing_holds s x g.soil g.sensitive false ranged, (footing_holds s x g.soil g.sensitive true ranged, tt))
+          (footing_holds s x g.soil g.sensitive Plus ranged, (footing_holds s x g.soil g.sensitive Minus ranged, tt))
   with_settings_lem (detail d) i f = (detail_holds d (detail_range d i), tt)
 
 pub rows_true : (p : Placed) → Good p → Pairwise (claims_of p) (rows_of p.context p.command)
 unfolding claims_of rows_of
 rows_true p g = given_settings p.context.settings g.context.settings
   where
-    given_settings : (o : Option Settings) → ((s : Settings) → o ≡ some s → SettingsRange s) →
+    given_settings : (o : Option Settings) → ((s : Settings) → o ≡ Some s → SettingsRange s) →
         Pairwise (when_given o (λ s. claims_with p.context s p.command)) (when_given o (λ s. rows_with p.context s p.command))
-    given_settings none r = tt
-    given_settings (some s) r = with_settings_lem p.context s g.context (r s refl) p.command g.range g.types
+    given_settings None r = tt
+    given_settings (Some s) r = with_settings_lem p.context s g.context (r s refl) p.command g.range g.types

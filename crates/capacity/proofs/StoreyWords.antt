@@ -5,15 +5,18 @@ use mathlib.Core.List.{List, ◌∷◌, ◌++◌}
 use Prim.Native.Nat.{ℕ, ◌*◌, ◌≤◌, ◌<◌}
 use lib.IntN.{ℤ}
 use lib.ListN.{length}
+use Rattle.std.specs.Prelude.{Some}
 use Rattle.exact.specs.Fraction.{Fraction}
 use Rattle.coefficient.proofs.Bounds.{proper}
+use Rattle.walls.specs.declared.Wall.{Wall}
 use Rattle.walls.specs.declared.Storey.{Storey}
 use Rattle.walls.specs.Running.{SameValues}
 use Rattle.walls.proofs.Running.{same_storey_row}
 use Rattle.format.specs.declared.Command.TheVariants.{Storey as storey}
 use Rattle.layout.proofs.Numbers.{Bytes}
 use Rattle.job.specs.Placed.{Placed, placed_all, accepted, placed, all_rows}
-use Rattle.job.specs.LatestWall.{wall_after, carried_row, AtStorey}
+use Rattle.rows.specs.Writing.{running_storey_row}
+use Rattle.job.specs.LatestWall.{wall_after, AtStorey}
 use Rattle.job.proofs.PlacedCases.{listed_of}
 use Rattle.job.proofs.Reached.{reached_accepted}
 use Rattle.job.proofs.LatestWall.{at_every_storey}
@@ -39,20 +42,27 @@ module _ (job : List ℕ) (earlier : List Placed) (s : Storey) (t : StoreyOf job
       let (es, l, q) = listed_of job t.commands t.is_accepted in
       at_every_storey job t.bytes earlier t.this t.later (ap placed_all (reached_accepted job es l) ∙ q ∙ t.place) s t.is_storey
 
-  -- words 2 to 7, from the running values and the operands
-  pub storey_words : (m : List ℤ) → 8 * length (all_rows t.commands) ≤ length m → row_read (rows_after job m) (length (all_rows earlier)) ≡ carried_row (wall_after earlier) s
-  storey_words m l = row_read_lem job t.commands t.is_accepted earlier t.this t.later t.place 7 (carried_row (wall_after earlier) s) at_storey.row m l
+  module _ (w : Wall) (e : wall_after earlier ≡ Some w) where
+    running_are : at_storey.carries.wall ≡ w
+    running_are = let k = at_storey.carries.running_values in cc
 
-  positive : 0 < (wall_after earlier).coefficient.den
-  positive =
-      let k = at_storey.carries in
-      let b = at_storey.base in
-      subst (λ (a : Fraction). 0 < a.den) (sym k.coefficient) (proper 130 b.resistance b.moment k.settings.behaviour)
+    -- words 2 to 7, from the running values and the operands
+    pub storey_words : (m : List ℤ) → 8 * length (all_rows t.commands) ≤ length m → row_read (rows_after job m) (length (all_rows earlier)) ≡ running_storey_row w s
+    storey_words m l =
+        row_read_lem job t.commands t.is_accepted earlier t.this t.later t.place 7 (running_storey_row at_storey.carries.wall s) at_storey.row m l
+        ∙ ap (λ (x : Wall). running_storey_row x s) running_are
+
+    positive : 0 < w.coefficient.den
+    positive =
+        let k = at_storey.carries in
+        let b = at_storey.base in
+        subst (λ (x : Wall). 0 < x.coefficient.den) running_are (subst (λ (a : Fraction). 0 < a.den) (sym k.coefficient) (proper 130 b.resistance b.moment k.settings.behaviour))
 
 -- two storeys with the same operands, in two jobs or in one: where the walk carries the same values at both, the words are the same,
 -- whatever walls, settings and other commands came before
-pub same_storey_words : (s : Storey) (job other : List ℕ) (earlier before : List Placed) (t : StoreyOf job earlier s) (u : StoreyOf other before s) → SameValues (wall_after earlier) (wall_after before) →
+pub same_storey_words : (s : Storey) (job other : List ℕ) (earlier before : List Placed) (t : StoreyOf job earlier s) (u : StoreyOf other before s) →
+    (w v : Wall) → wall_after earlier ≡ Some w → wall_after before ≡ Some v → SameValues w v →
     (m k : List ℤ) → 8 * length (all_rows t.commands) ≤ length m → 8 * length (all_rows u.commands) ≤ length k →
     row_read (rows_after job m) (length (all_rows earlier)) ≡ row_read (rows_after other k) (length (all_rows before))
-same_storey_words s job other earlier before t u v m k l w =
-    storey_words job earlier s t m l ∙ same_storey_row (wall_after earlier) (wall_after before) (positive job earlier s t) (positive other before s u) v s ∙ sym (storey_words other before s u k w)
+same_storey_words s job other earlier before t u w v e f q m k l n =
+    storey_words job earlier s t w e m l ∙ same_storey_row w v (positive job earlier s t w e) (positive other before s u v f) q s ∙ sym (storey_words other before s u v f k n)

@@ -5,7 +5,7 @@ use Prim.Native.Nat.{ℕ, ◌*◌, ◌≤◌}
 use native.Mathlib.Omega.{arith}
 use native.Mathlib.Nat.{zero-add}
 use lib.IntN.{ℤ}
-use lib.ListN.{length, drop, replicate, length-append}
+use lib.ListN.{length, drop, length-append}
 use Rattle.format.specs.Commands.{byte_of}
 use Rattle.layout.proofs.Numbers.{Bytes}
 use Rattle.context.specs.Running.{room_for}
@@ -16,7 +16,7 @@ use Rattle.job.specs.Placed.{Placed, Entry, placed_all, Listing, accepted, liste
 use Rattle.job.specs.Walking.{Final, first_place, no_joints, walk_from}
 use Rattle.job.proofs.PlacedCases.{listed_of}
 use Rattle.job.proofs.Simulation.{Matches}
-use Rattle.job.proofs.Begin.{zero_sums, begin_matches}
+use Rattle.job.proofs.Begin.{begin_matches}
 
 -- every row has eight words
 pub rows_eight : (ps : List Placed) → Eights (all_rows ps)
@@ -40,10 +40,10 @@ memory_of job j es f m e k h =
     a.1 ∙ stored_all_fits m 0 (all_rows (placed_all es)) (rows_eight (placed_all es)) (omega arith) ∙ rw (zero-add (length (all_rows (placed_all es))))
 
 pub walk_writes : (job : List ℕ) (m : List ℤ) → Bytes job → (ps : List Placed) → placed job ≡ accepted ps → 8 * length (all_rows ps) ≤ length m →
-    (walk_from (room_for (length m)) 4097 job first_place (no_joints (replicate 768 0)) m).memory ≡ joined (all_rows ps) ++ drop (8 * length (all_rows ps)) m
+    (walk_from (room_for (length m)) 4097 job first_place no_joints m).memory ≡ joined (all_rows ps) ++ drop (8 * length (all_rows ps)) m
 walk_writes job m b ps e h =
     let room = room_for (length m) in
     let (es, l, q) = listed_of job ps e in
-    let f = walk_from room 4097 job first_place (no_joints (replicate 768 0)) m in
+    let f = walk_from room 4097 job first_place no_joints m in
     subst (λ (xs : List Placed). f.memory ≡ joined (all_rows xs) ++ drop (8 * length (all_rows xs)) m) q
-    (memory_of job (listed job) es f m l (begin_matches room (replicate 768 0) (zero_sums room) job m b refl) (rw q h))
+    (memory_of job (listed job) es f m l (begin_matches room job m b refl) (rw q h))

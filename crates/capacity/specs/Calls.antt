@@ -1,13 +1,14 @@
 -- The call `run`. 01, "Calls": "Run writes the rows and answers their number, leaving every later word as lent". 02, No. 8: it is "one
 -- call whose answer has rows, rows failed and checks failed"; "On a refusal all three are zero and the slice keeps its words; refusal 9
 -- still carries the rows needed, as a number of its own."
-use Rattle.std.specs.Prelude.{◌≡◌, Bool, true, false, cond, List, ◌++◌, ℕ, ◌*◌, ◌≤◌, leb, ℤ, length, drop}
+use Rattle.std.specs.Prelude.{◌≡◌, Bool, true, false, cond, Result, Ok, Err, List, ◌++◌, ℕ, ◌*◌, ◌≤◌, leb, ℤ, length, drop}
 use Rattle.totals.specs.declared.Totals.{Totals}
 use Rattle.totals.specs.Counted.{counted_in}
 use Rattle.rows.specs.Writing.{joined}
+use Rattle.job.specs.Refusals.{number_of}
 use Rattle.job.specs.Placed.{Job, Placed, refused, accepted, placed, all_rows}
-use Rattle.capacity.specs.declared.Ran.{Ran}
-use Rattle.capacity.specs.declared.Ran.TheVariants.{Rows, Refused, TooShort}
+use Rattle.capacity.specs.declared.RunError.{RunError}
+use Rattle.capacity.specs.declared.RunError.TheVariants.{Refused, TooShort}
 
 -- whether the job is accepted and its rows written; the refusal's number and offset, 0 where there is none; the rows written, those
 -- failed, and the checks failed; and the rows needed
@@ -31,10 +32,10 @@ abbrev pub too_short_run : ℕ → RunAnswer
 too_short_run n = record { accepted = false; number = 9; offset = 0; rows = 0; failed = 0; checks = 0; needed = n }
 
 -- the answer of run in the code, in these terms
-abbrev pub run_answer : Ran → RunAnswer
-run_answer (Rows t) = ran_answer t
-run_answer (Refused number offset) = refused_run number offset
-run_answer (TooShort n) = too_short_run n
+abbrev pub run_answer : Result Totals RunError → RunAnswer
+run_answer (Ok t) = ran_answer t
+run_answer (Err (Refused r)) = refused_run (number_of r.refusal) r.offset
+run_answer (Err (TooShort n)) = too_short_run n
 
 -- the numbers of rows: how many they are; how many have a verdict that is not 0; and how many ones all verdicts have
 abbrev pub totals_of : List (List ℤ) → Totals

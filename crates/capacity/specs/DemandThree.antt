@@ -4,7 +4,7 @@
 -- job's bytes alone. What `Hold` claims of a row is in the crate `claims`: no check passes whose exact demand exceeds its exact
 -- strength, no reported demand lies below the exact one, the excess stays under the amounts, whatever is clear by the amounts
 -- passes, and each of the bits 1, 2, 4, 8, 32 is clear exactly when all its checks pass.
-use Rattle.std.specs.Prelude.{◌≡◌, Bool, true, false, List, [], ◌∷◌, ℕ, ◌+◌, ◌*◌, ℤ, pos, length, get_or, ◌≤ℤ◌}
+use Rattle.std.specs.Prelude.{◌≡◌, List, [], ◌∷◌, ℕ, ◌+◌, ◌*◌, ℤ, pos, length, get_or, ◌≤ℤ◌}
 use Rattle.coefficient.specs.declared.Settings.{Settings}
 use Rattle.claims.specs.declared.Row.{Row}
 use Rattle.claims.specs.Claims.{Hold}
@@ -14,11 +14,14 @@ use Rattle.members.specs.Hingeless.{hingeless_claims}
 use Rattle.members.specs.Detail.{detail_claims}
 use Rattle.walls.specs.Base.{base_claims}
 use Rattle.walls.specs.Storey.{storey_claims}
+use Rattle.actions.specs.declared.Sign.{Sign}
+use Rattle.actions.specs.declared.Sign.TheVariants.{Plus, Minus}
 use Rattle.footing.specs.declared.Footing.{Footing}
 use Rattle.footing.specs.Claimed.{footing_claims}
 use Rattle.format.specs.declared.Command.{Command}
 use Rattle.format.specs.declared.Command.TheVariants.{Finish as finish, Settings as settings, Joint as joint, Column as column, Beam as beam, Hingeless as hingeless, WallBase as wall_base, Storey as storey, Soil as soil, Footing as footing, Detail as detail}
-use Rattle.context.specs.Context.{Context, Ground, when_given}
+use Rattle.context.specs.declared.Ground.{Ground}
+use Rattle.context.specs.Context.{Context, when_given}
 use Rattle.job.specs.Placed.{Placed, Job, refused, accepted, placed, rows_at}
 
 -- what is claimed of a row, by its words 2 to 7
@@ -26,8 +29,8 @@ abbrev pub Claim : Type 1
 Claim = Row → Type 0
 
 -- nothing is claimed of a footing row whose reported N, word 2, is below 20,000
-abbrev pub footing_claim : Settings → Footing → Ground → Bool → Claim
-footing_claim s f g minus r = pos 20000 ≤ℤ r.word2 → Hold (footing_claims s f g.soil g.sensitive minus r)
+abbrev pub footing_claim : Settings → Footing → Ground → Sign → Claim
+footing_claim s f g sign r = pos 20000 ≤ℤ r.word2 → Hold (footing_claims s f g.soil g.sensitive sign r)
 
 -- the claims of a command, one for each of its rows, in their order
 unfoldable pub claims_with : Context → Settings → Command → List Claim
@@ -40,7 +43,7 @@ claims_with h s (hingeless id1 id2 m) = when_given (h.joints id1) (λ i. when_gi
 claims_with h s (wall_base b) = (λ r. Hold (base_claims s.behaviour b r)) ∷ []
 claims_with h s (storey t) = when_given h.wall (λ b. (λ r. Hold (storey_claims s.behaviour b t r)) ∷ [])
 claims_with h s (soil t) = []
-claims_with h s (footing f) = when_given h.ground (λ g. footing_claim s f g false ∷ footing_claim s f g true ∷ [])
+claims_with h s (footing f) = when_given h.ground (λ g. footing_claim s f g Plus ∷ footing_claim s f g Minus ∷ [])
 claims_with h s (detail d) = (λ r. Hold (detail_claims d r)) ∷ []
 
 unfoldable pub claims_of : Placed → List Claim

@@ -1,8 +1,7 @@
 -- Where the cap governs, over the words that `run` writes. 02, No. 5: "Designers want to know if a larger section would raise the
 -- shear or if the cap holds." Where a row tells that it holds, the same member with a greater resistance, in the same job or in any
 -- other with the same q, has the same design shear, and its row tells so too.
-use Rattle.std.specs.Prelude.{◌≡◌, List, ◌∷◌, ◌++◌, ℕ, ◌*◌, ◌≤◌, ℤ, pos, length}
-use Rattle.std.proofs.Math.Option.{some}
+use Rattle.std.specs.Prelude.{◌≡◌, List, ◌∷◌, ◌++◌, ℕ, ◌*◌, ◌≤◌, ℤ, pos, length, Some}
 use Rattle.coefficient.specs.declared.Settings.{Settings}
 use Rattle.claims.specs.declared.Row.{Row}
 use Rattle.members.specs.declared.Column.{Column}
@@ -29,7 +28,7 @@ pub record RunRow (c : Command) (q : ℕ) (r : Row) : Type 0 where
   pub place : commands ≡ earlier ++ this ∷ later
   pub is_command : this.command ≡ c
   pub settings : Settings
-  pub settings_hold : this.context.settings ≡ some settings
+  pub settings_hold : this.context.settings ≡ Some settings
   pub behaviour : settings.behaviour ≡ q
   pub slice : List ℤ
   pub room : 8 * length (all_rows commands) ≤ length slice

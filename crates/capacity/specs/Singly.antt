@@ -1,8 +1,7 @@
 -- A block stands for its storeys. 02, No. 7: "Its rows are those of the same storeys given singly, word 1 being 07, except that word 0
 -- is the offset of each set's first byte." A file is given by its commands, written one after the other, with its end; every accepted
 -- job is such a file (proofs/WrittenAgain.antt, `job_again`). And what demand 3 claims of a storey holds for those of a block.
-use Rattle.std.specs.Prelude.{◌≡◌, List, [], ◌∷◌, ◌++◌, map, ℕ, ◌+◌, ◌*◌, ◌≤◌, ℤ, length, drop}
-use Rattle.std.proofs.Math.Option.{some}
+use Rattle.std.specs.Prelude.{◌≡◌, List, [], ◌∷◌, ◌++◌, map, ℕ, ◌+◌, ◌*◌, ◌≤◌, ℤ, length, drop, Some}
 use Rattle.coefficient.specs.declared.Settings.{Settings}
 use Rattle.claims.specs.Claims.{Hold}
 use Rattle.walls.specs.declared.WallBase.{WallBase}
@@ -46,8 +45,8 @@ BlocksStand =
 pub record StoreyHeld (words : List ℤ) (n : ℕ) (h : Context) (s : Storey) : Type 0 where
   pub settings : Settings
   pub base : WallBase
-  pub settings_hold : h.settings ≡ some settings
-  pub base_holds : h.wall ≡ some base
+  pub settings_hold : h.settings ≡ Some settings
+  pub base_holds : h.wall ≡ Some base
   pub claims : Hold (storey_claims settings.behaviour base s (row_read words n))
 
 -- 02, No. 7: "Bounds for storeys extend to blocks of every count." In every accepted job, for every block and every storey of it: what

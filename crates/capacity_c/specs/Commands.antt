@@ -4,6 +4,8 @@ use Rattle.std.specs.Prelude.{cond, ◌&&◌, leb}
 use Rattle.std.proofs.Math.Option.{Option, none, some}
 use Rattle.std.specs.Float.{binary32}
 use Rattle.std.specs.Float.Ieee.{to_bits}
+use Rattle.members.specs.declared.Joint.{Joint}
+use Rattle.members.specs.declared.Hingeless.{Hingeless}
 use Rattle.format.specs.declared.Command.{Command}
 use Rattle.format.specs.declared.Command.TheVariants.{Settings as settings, Joint as joint, Column as column, Beam as beam, Hingeless as hingeless, WallBase as wall_base, Storey as storey, Soil as soil, Footing as footing, Detail as detail}
 use Rattle.blocks.specs.FileCommands.{FileCommand, one}
@@ -30,11 +32,11 @@ write_answer a = record { number = a.number; offset = a.offset; bytes = a.bytes 
 abbrev pub settings_command : SettingsOperands → Command
 settings_command v = settings (record { behaviour = v.q; joints = v.gj; foundations = v.gf })
 
+abbrev pub joint_of : JointOperands → Joint
+joint_of v = record { beams = v.rb; columns = v.rc; seismic = v.eb }
+
 abbrev pub joint_command : JointOperands → Option FileCommand
-joint_command v =
-    cond (leb v.id 255)
-    (some (one (joint v.id (record { beams = v.rb; columns = v.rc; seismic = v.eb }))))
-    none
+joint_command v = cond (leb v.id 255) (some (one (joint v.id (joint_of v)))) none
 
 abbrev pub column_command : ColumnOperands → Command
 column_command v =
@@ -61,12 +63,11 @@ beam_command v =
       strength = v.vr;
     })
 
+abbrev pub hingeless_of : HingelessOperands → Hingeless
+hingeless_of v = record { length = v.length; moment1 = v.me1; moment2 = v.me2; nonseismic = v.v0; strength = v.vr }
+
 abbrev pub hingeless_command : HingelessOperands → Option FileCommand
-hingeless_command v =
-    cond (leb v.id1 255 && leb v.id2 255)
-    (some (one (hingeless v.id1 v.id2
-    (record { length = v.length; moment1 = v.me1; moment2 = v.me2; nonseismic = v.v0; strength = v.vr }))))
-    none
+hingeless_command v = cond (leb v.id1 255 && leb v.id2 255) (some (one (hingeless v.id1 v.id2 (hingeless_of v)))) none
 
 abbrev pub wall_base_command : WallBaseOperands → Command
 wall_base_command v =

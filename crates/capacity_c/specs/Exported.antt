@@ -1,6 +1,5 @@
 -- 01's answers as the structs that a call hands to a program in another language: the same values, field by field. Assumes nothing.
-use Rattle.job.specs.Answers.{Answer}
-use Rattle.job.specs.declared.FaultAnswer.{FaultAnswer}
+use Rattle.job.specs.Answers.{Answer, FaultAnswer}
 use Rattle.soil.specs.Answers as soil
 use Rattle.printing.specs.Answers.{PageAnswer}
 use Rattle.capacity.specs.Calls.{RunAnswer}

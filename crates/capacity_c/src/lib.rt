@@ -5,22 +5,24 @@
 ghost use Rattle.std.specs.Prelude.{◌≡◌, true, false, length};
 ghost use Rattle.soil.specs.Answers.{answer_of};
 ghost use Rattle.soil.specs.Taken.{take_down};
-ghost use Rattle.job.specs.Answers.{row_count_answer, size_of, fault_of};
+ghost use Rattle.job.specs.Answers.{row_count_answer, size_of, fault_answer, fault_of};
 ghost use Rattle.printing.specs.Answers.{page_answer, page_of, bytes_after as page_after};
 ghost use Rattle.capacity.specs.Calls.{run_answer, run_of, rows_after};
 ghost use Rattle.capacity.specs.DemandThree.{DemandThree};
 ghost use Rattle.capacity_c.specs.Exported.{job_answer, ran_answer, fault_found, soil_answer, printed_answer};
 
-use capacity::Ran;
-use job::RowCount;
-use printing::Printed;
-use soil::TakeDown;
+use capacity::RunError;
+use job::{JobFault, Refused};
+use printing::PageError;
+use totals::Totals;
 
 mod writes; // writes.rt: the calls that write a command
 
+// C has no type for one of several cases: an answer has the refusal's number beside the values, and 0 where there is none.
+
 // The answer of size.
 #[repr(C)]
-#[derive(Clone, Copy)]
+#[derive(Clone, Copy, Default)]
 pub struct JobAnswer {
     pub accepted: bool,
     pub number: u32,
@@ -30,7 +32,7 @@ pub struct JobAnswer {
 
 // The answer of run.
 #[repr(C)]
-#[derive(Clone, Copy)]
+#[derive(Clone, Copy, Default)]
 pub struct RanAnswer {
     pub accepted: bool,
     pub number: u32,
@@ -43,7 +45,7 @@ pub struct RanAnswer {
 
 // The answer of take-down.
 #[repr(C)]
-#[derive(Clone, Copy)]
+#[derive(Clone, Copy, Default)]
 pub struct SoilAnswer {
     pub number: u32,
     pub offset: u32,
@@ -52,7 +54,7 @@ pub struct SoilAnswer {
 
 // The answer of fault.
 #[repr(C)]
-#[derive(Clone, Copy)]
+#[derive(Clone, Copy, Default)]
 pub struct FaultFound {
     pub number: u32,
     pub offset: usize,
@@ -62,7 +64,7 @@ pub struct FaultFound {
 
 // The answer of page.
 #[repr(C)]
-#[derive(Clone, Copy)]
+#[derive(Clone, Copy, Default)]
 pub struct PrintedAnswer {
     pub number: u32,
     pub offset: usize,
@@ -70,103 +72,108 @@ pub struct PrintedAnswer {
     pub bytes: usize,
 }
 
-fn counted(answer: RowCount) -> JobAnswer
-    ensures { result ≡ job_answer (row_count_answer answer) }
-{
-    match answer {
-        RowCount::Rows(rows) => JobAnswer {
-            accepted: true,
-            number: 0,
-            offset: 0,
-            rows,
-        },
-        RowCount::Refused(number, offset) => JobAnswer {
-            accepted: false,
-            number,
-            offset,
-            rows: 0,
-        },
+impl From<Result<usize, Refused>> for JobAnswer {
+    ghost from_gives = { λ r a. a ≡ job_answer (row_count_answer r) };
+
+    fn from(size: Result<usize, Refused>) -> JobAnswer {
+        match size {
+            Ok(rows) => JobAnswer {
+                accepted: true,
+                rows,
+                ..JobAnswer::default()
+            },
+            Err(refused) => JobAnswer {
+                number: refused.refusal.number(),
+                offset: refused.offset,
+                ..JobAnswer::default()
+            },
+        }
     }
 }
 
-// A refusal of run: the three numbers are 0.
-fn not_run(number: u32, offset: usize, needed: usize) -> RanAnswer
-    ensures { result ≡ record { accepted = false; number = number; offset = offset; rows = 0; failed = 0; checks = 0; needed = needed } }
-{
-    RanAnswer {
-        accepted: false,
-        number,
-        offset,
-        rows: 0,
-        failed: 0,
-        checks: 0,
-        needed,
+impl From<Result<Totals, RunError>> for RanAnswer {
+    ghost from_gives = { λ r a. a ≡ ran_answer (run_answer r) };
+
+    fn from(ran: Result<Totals, RunError>) -> RanAnswer {
+        match ran {
+            Ok(totals) => RanAnswer {
+                accepted: true,
+                rows: totals.rows,
+                failed: totals.failed,
+                checks: totals.checks,
+                ..RanAnswer::default()
+            },
+            Err(RunError::Refused(refused)) => RanAnswer {
+                number: refused.refusal.number(),
+                offset: refused.offset,
+                ..RanAnswer::default()
+            },
+            Err(RunError::TooShort(needed)) => RanAnswer {
+                number: 9,
+                needed,
+                ..RanAnswer::default()
+            },
+        }
     }
 }
 
-fn ran(answer: Ran) -> RanAnswer
-    ensures { result ≡ ran_answer (run_answer answer) }
-{
-    match answer {
-        Ran::Rows(totals) => RanAnswer {
-            accepted: true,
-            number: 0,
-            offset: 0,
-            rows: totals.rows,
-            failed: totals.failed,
-            checks: totals.checks,
-            needed: 0,
-        },
-        Ran::Refused(number, offset) => not_run(number, offset, 0),
-        Ran::TooShort(needed) => not_run(9, 0, needed),
+impl From<Option<JobFault>> for FaultFound {
+    ghost from_gives = { λ f a. a ≡ fault_found (fault_answer f) };
+
+    fn from(fault: Option<JobFault>) -> FaultFound {
+        match fault {
+            None => FaultFound::default(),
+            Some(found) => FaultFound {
+                number: found.refused.refusal.number(),
+                offset: found.refused.offset,
+                command: u32::from(found.command),
+                operand: found.refused.refusal.operand(),
+            },
+        }
     }
 }
 
-fn taken(answer: TakeDown) -> SoilAnswer
-    ensures { result ≡ soil_answer (answer_of answer) }
-{
-    match answer {
-        TakeDown::Value(value) => SoilAnswer {
-            number: 0,
-            offset: 0,
-            value,
-        },
-        TakeDown::OutOfRange => SoilAnswer {
-            number: 5,
-            offset: 0,
-            value: 0,
-        },
+impl From<Option<u32>> for SoilAnswer {
+    ghost from_gives = { λ t a. a ≡ soil_answer (answer_of t) };
+
+    #[tactic(auto, unfolding(soil::specs::Answers::answer_of, soil::specs::Answers::accepted, soil::specs::Answers::refused))]
+    fn from(taken: Option<u32>) -> SoilAnswer {
+        match taken {
+            Some(value) => SoilAnswer {
+                value,
+                ..SoilAnswer::default()
+            },
+            None => SoilAnswer {
+                number: 5,
+                ..SoilAnswer::default()
+            },
+        }
     }
 }
 
-fn paged(answer: Printed) -> PrintedAnswer
-    ensures { result ≡ printed_answer (page_answer answer) }
-{
-    match answer {
-        Printed::Bytes(bytes) => PrintedAnswer {
-            number: 0,
-            offset: 0,
-            rows: 0,
-            bytes,
-        },
-        Printed::TooFewWords(rows) => PrintedAnswer {
-            number: 9,
-            offset: 0,
-            rows,
-            bytes: 0,
-        },
-        Printed::TooWide => PrintedAnswer {
-            number: 12,
-            offset: 0,
-            rows: 0,
-            bytes: 0,
-        },
-        Printed::TooShort => PrintedAnswer {
-            number: 11,
-            offset: 0,
-            rows: 0,
-            bytes: 0,
-        },
+impl From<Result<usize, PageError>> for PrintedAnswer {
+    ghost from_gives = { λ p a. a ≡ printed_answer (page_answer p) };
+
+    fn from(page: Result<usize, PageError>) -> PrintedAnswer {
+        match page {
+            Ok(bytes) => PrintedAnswer {
+                bytes,
+                ..PrintedAnswer::default()
+            },
+            Err(PageError::TooFewWords(rows)) => PrintedAnswer {
+                number: 9,
+                rows,
+                ..PrintedAnswer::default()
+            },
+            Err(PageError::TooWide) => PrintedAnswer {
+                number: 12,
+                ..PrintedAnswer::default()
+            },
+            Err(PageError::TooShort) => PrintedAnswer {
+                number: 11,
+                ..PrintedAnswer::default()
+            },
+        }
     }
 }
 
@@ -175,7 +182,7 @@ fn paged(answer: Printed) -> PrintedAnswer
 pub extern "C" fn eak_size(job: &[u8]) -> JobAnswer
     ensures { result ≡ job_answer (size_of job.now) }
 {
-    counted(capacity::size(job))
+    JobAnswer::from(capacity::size(job))
 }
 
 // The fault of a job, with the operand at fault; all 0 where it is accepted.
@@ -183,13 +190,7 @@ pub extern "C" fn eak_size(job: &[u8]) -> JobAnswer
 pub extern "C" fn eak_fault(job: &[u8]) -> FaultFound
     ensures { result ≡ fault_found (fault_of job.now) }
 {
-    let found = capacity::fault(job);
-    FaultFound {
-        number: found.number,
-        offset: found.offset,
-        command: found.command as u32,
-        operand: found.operand,
-    }
+    FaultFound::from(capacity::fault(job))
 }
 
 // The rows of a job, their number, the rows failed and the checks failed.
@@ -199,7 +200,7 @@ pub extern "C" fn eak_run(job: &[u8], rows: &mut [i64]) -> RanAnswer
     ensures words { rows.new ≡ rows_after job.now rows.old }
     ensures demand3 { result.accepted ≡ true → DemandThree job.now rows.new }
 {
-    ran(capacity::run(job, rows))
+    RanAnswer::from(capacity::run(job, rows))
 }
 
 // The page of the first n rows, written from the slice's first byte on.
@@ -208,7 +209,7 @@ pub extern "C" fn eak_page(rows: &[i64], n: usize, bytes: &mut [u8]) -> PrintedA
     ensures answer { result ≡ printed_answer (page_of rows.now n (length bytes.old)) }
     ensures bytes { bytes.new ≡ page_after rows.now n bytes.old }
 {
-    paged(capacity::page(rows, n, bytes))
+    PrintedAnswer::from(capacity::page(rows, n, bytes))
 }
 
 // Take-down of one soil value. Any 32 bits may come as the value: a NaN is not at most its limit, so it is refused like the rest.
@@ -216,7 +217,7 @@ pub extern "C" fn eak_page(rows: &[i64], n: usize, bytes: &mut [u8]) -> PrintedA
 pub extern "C" fn eak_take_down(kind: u8, value: f32) -> SoilAnswer
     ensures { result ≡ soil_answer (take_down kind value) }
 {
-    taken(capacity::take_down(kind, value))
+    SoilAnswer::from(capacity::take_down(kind, value))
 }
 
 // The version of these calls: 10,000 times the major number, 100 times the minor one, and the patch; the header's EAK_VERSION.

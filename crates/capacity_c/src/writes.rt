@@ -4,21 +4,23 @@
 ghost use Rattle.std.specs.Prelude.{◌≡◌, length};
 ghost use Rattle.std.specs.Float.{binary32};
 ghost use Rattle.std.specs.Float.Ieee.{to_bits};
-ghost use Rattle.format.specs.declared.Command.TheVariants.{Finish as finish};
+ghost use Rattle.members.specs.declared.Joint.{Joint};
+ghost use Rattle.members.specs.declared.Hingeless.{Hingeless};
+ghost use Rattle.format.specs.declared.Command.TheVariants.{Finish as finish, Settings as settings, Column as column, Beam as beam, WallBase as wall_base, Storey as storey, Soil as soil, Footing as footing, Detail as detail};
 ghost use Rattle.writing.specs.Answers.{answer_of, refused_with, write_of, bytes_after, write_given, bytes_given};
 ghost use Rattle.writing.specs.BlockGiven.{write_block_of, block_bytes_after};
-ghost use Rattle.capacity_c.specs.Commands.{write_answer, settings_command, joint_command, column_command, beam_command, hingeless_command, wall_base_command, storey_command, soil_command, footing_command, detail_command};
+ghost use Rattle.capacity_c.specs.Commands.{write_answer, joint_of, hingeless_of, settings_command, joint_command, column_command, beam_command, hingeless_command, wall_base_command, storey_command, soil_command, footing_command, detail_command};
 
 use coefficient::Settings;
 use footing::Footing;
 use format::SoilGiven;
 use members::{Beam, Column, Detail, Hingeless, Joint};
 use walls::{Storey, WallBase};
-use writing::Written;
+use writing::{End, WriteError};
 
 // The answer of the calls that write.
 #[repr(C)]
-#[derive(Clone, Copy)]
+#[derive(Clone, Copy, Default)]
 pub struct WriteAnswer {
     pub number: u32,
     pub offset: usize,
@@ -141,37 +143,6 @@ pub struct DetailOperands {
     pub lap: u32,
 }
 
-// ---- what the calls share
-
-// Refusal 5.
-fn refused() -> WriteAnswer
-    ensures { result ≡ write_answer (refused_with 5) }
-{
-    WriteAnswer {
-        number: 5,
-        offset: 0,
-        bytes: 0,
-    }
-}
-
-fn answered(answer: Written) -> WriteAnswer
-    ensures { result ≡ write_answer (answer_of answer) }
-{
-    match answer {
-        Written::Bytes(bytes) => WriteAnswer {
-            number: 0,
-            offset: 0,
-            bytes,
-        },
-        Written::OutOfRange => refused(),
-        Written::TooShort => WriteAnswer {
-            number: 11,
-            offset: 0,
-            bytes: 0,
-        },
-    }
-}
-
 // The 32 bits of a float; one pattern for every NaN.
 fn bits_of(value: f32) -> u32
     ensures { result ≡ to_bits binary32 value }
@@ -183,6 +154,182 @@ fn bits_of(value: f32) -> u32
     }
 }
 
+// ---- the values as those of a command
+
+impl From<SettingsOperands> for Settings {
+    ghost from_gives = { λ v x. settings x ≡ settings_command v };
+
+    fn from(values: SettingsOperands) -> Settings {
+        Settings {
+            behaviour: values.q,
+            joints: values.gj,
+            foundations: values.gf,
+        }
+    }
+}
+
+impl From<JointOperands> for Joint {
+    ghost from_gives = { λ v x. x ≡ joint_of v };
+
+    fn from(values: JointOperands) -> Joint {
+        Joint {
+            beams: values.rb,
+            columns: values.rc,
+            seismic: values.eb,
+        }
+    }
+}
+
+impl From<ColumnOperands> for Column {
+    ghost from_gives = { λ v x. column x ≡ column_command v };
+
+    fn from(values: ColumnOperands) -> Column {
+        Column {
+            length: values.length,
+            plus1: values.r1plus,
+            plus2: values.r2plus,
+            minus1: values.r1minus,
+            minus2: values.r2minus,
+            shear: values.ve,
+            strength: values.vr,
+        }
+    }
+}
+
+impl From<BeamOperands> for Beam {
+    ghost from_gives = { λ v x. beam x ≡ beam_command v };
+
+    fn from(values: BeamOperands) -> Beam {
+        Beam {
+            length: values.length,
+            plus1: values.r1plus,
+            plus2: values.r2plus,
+            minus1: values.r1minus,
+            minus2: values.r2minus,
+            nonseismic: values.v0,
+            shear: values.ve,
+            strength: values.vr,
+        }
+    }
+}
+
+impl From<HingelessOperands> for Hingeless {
+    ghost from_gives = { λ v x. x ≡ hingeless_of v };
+
+    fn from(values: HingelessOperands) -> Hingeless {
+        Hingeless {
+            length: values.length,
+            moment1: values.me1,
+            moment2: values.me2,
+            nonseismic: values.v0,
+            strength: values.vr,
+        }
+    }
+}
+
+impl From<WallBaseOperands> for WallBase {
+    ghost from_gives = { λ v x. wall_base x ≡ wall_base_command v };
+
+    fn from(values: WallBaseOperands) -> WallBase {
+        WallBase {
+            length: values.length,
+            thickness: values.thickness,
+            resistance: values.mr,
+            moment: values.me,
+            shear: values.ve,
+            strength: values.vr,
+        }
+    }
+}
+
+impl From<StoreyOperands> for Storey {
+    ghost from_gives = { λ v x. storey x ≡ storey_command v };
+
+    fn from(values: StoreyOperands) -> Storey {
+        Storey {
+            moment: values.me,
+            shear: values.ve,
+            inertia: values.j,
+            base_inertia: values.j0,
+            strength: values.vr,
+            resistance: values.ms,
+        }
+    }
+}
+
+impl From<SoilOperands> for SoilGiven {
+    ghost from_gives = { λ v x. soil x ≡ soil_command v };
+
+    fn from(values: SoilOperands) -> SoilGiven {
+        SoilGiven {
+            kind: values.kind,
+            value: bits_of(values.value),
+            sensitive: values.sensitive,
+        }
+    }
+}
+
+impl From<FootingOperands> for Footing {
+    ghost from_gives = { λ v x. footing x ≡ footing_command v };
+
+    fn from(values: FootingOperands) -> Footing {
+        Footing {
+            breadth: values.b,
+            length: values.l,
+            resistance: values.mr,
+            moment: values.me,
+            nv: values.nv,
+            ne: values.ne,
+            xv: values.xv,
+            xe: values.xe,
+            yv: values.yv,
+            ye: values.ye,
+            hv: values.hv,
+            he: values.he,
+            uplift: values.u,
+            passive: values.p,
+            flags: values.flags,
+        }
+    }
+}
+
+impl From<DetailOperands> for Detail {
+    ghost from_gives = { λ v x. detail x ≡ detail_command v };
+
+    fn from(values: DetailOperands) -> Detail {
+        Detail {
+            place: values.place,
+            ultimate: values.xu,
+            yielded: values.xy,
+            ductility: values.mu,
+            lap: values.lap,
+        }
+    }
+}
+
+// ---- what the calls share
+
+impl From<Result<usize, WriteError>> for WriteAnswer {
+    ghost from_gives = { λ w a. a ≡ write_answer (answer_of w) };
+
+    fn from(written: Result<usize, WriteError>) -> WriteAnswer {
+        match written {
+            Ok(bytes) => WriteAnswer {
+                bytes,
+                ..WriteAnswer::default()
+            },
+            Err(WriteError::OutOfRange) => WriteAnswer {
+                number: 5,
+                ..WriteAnswer::default()
+            },
+            Err(WriteError::TooShort) => WriteAnswer {
+                number: 11,
+                ..WriteAnswer::default()
+            },
+        }
+    }
+}
+
 // ---- the calls
 
 // 01 settings.
@@ -191,12 +338,7 @@ pub extern "C" fn eak_write_settings(values: SettingsOperands, bytes: &mut [u8])
     ensures answer { result ≡ write_answer (write_of (settings_command values) (length bytes.old)) }
     ensures bytes { bytes.new ≡ bytes_after (settings_command values) bytes.old }
 {
-    let settings = Settings {
-        behaviour: values.q,
-        joints: values.gj,
-        foundations: values.gf,
-    };
-    answered(writing::write_settings(settings, bytes))
+    WriteAnswer::from(writing::write_values(Settings::from(values), bytes))
 }
 
 // 02 joint. An id above 255 is refused, and not narrowed.
@@ -205,17 +347,10 @@ pub extern "C" fn eak_write_joint(values: JointOperands, bytes: &mut [u8]) -> Wr
     ensures answer { result ≡ write_answer (write_given (joint_command values) (length bytes.old)) }
     ensures bytes { bytes.new ≡ bytes_given (joint_command values) bytes.old }
 {
-    let id = values.id;
-    if 255 < id {
-        return refused();
-    }
-    let joint = Joint {
-        beams: values.rb,
-        columns: values.rc,
-        seismic: values.eb,
+    let Ok(id) = u8::try_from(values.id) else {
+        return WriteAnswer::from(Err(WriteError::OutOfRange));
     };
-    let byte = id as u8;
-    answered(writing::write_joint(byte, joint, bytes))
+    WriteAnswer::from(writing::write_values((id, Joint::from(values)), bytes))
 }
 
 // 03 column.
@@ -224,16 +359,7 @@ pub extern "C" fn eak_write_column(values: ColumnOperands, bytes: &mut [u8]) -> 
     ensures answer { result ≡ write_answer (write_of (column_command values) (length bytes.old)) }
     ensures bytes { bytes.new ≡ bytes_after (column_command values) bytes.old }
 {
-    let column = Column {
-        length: values.length,
-        plus1: values.r1plus,
-        plus2: values.r2plus,
-        minus1: values.r1minus,
-        minus2: values.r2minus,
-        shear: values.ve,
-        strength: values.vr,
-    };
-    answered(writing::write_column(column, bytes))
+    WriteAnswer::from(writing::write_values(Column::from(values), bytes))
 }
 
 // 04 beam.
@@ -242,17 +368,7 @@ pub extern "C" fn eak_write_beam(values: BeamOperands, bytes: &mut [u8]) -> Writ
     ensures answer { result ≡ write_answer (write_of (beam_command values) (length bytes.old)) }
     ensures bytes { bytes.new ≡ bytes_after (beam_command values) bytes.old }
 {
-    let beam = Beam {
-        length: values.length,
-        plus1: values.r1plus,
-        plus2: values.r2plus,
-        minus1: values.r1minus,
-        minus2: values.r2minus,
-        nonseismic: values.v0,
-        shear: values.ve,
-        strength: values.vr,
-    };
-    answered(writing::write_beam(beam, bytes))
+    WriteAnswer::from(writing::write_values(Beam::from(values), bytes))
 }
 
 // 05 member without hinges. An id above 255 is refused, and not narrowed.
@@ -261,24 +377,13 @@ pub extern "C" fn eak_write_hingeless(values: HingelessOperands, bytes: &mut [u8
     ensures answer { result ≡ write_answer (write_given (hingeless_command values) (length bytes.old)) }
     ensures bytes { bytes.new ≡ bytes_given (hingeless_command values) bytes.old }
 {
-    let id1 = values.id1;
-    let id2 = values.id2;
-    if 255 < id1 {
-        return refused();
-    }
-    if 255 < id2 {
-        return refused();
-    }
-    let member = Hingeless {
-        length: values.length,
-        moment1: values.me1,
-        moment2: values.me2,
-        nonseismic: values.v0,
-        strength: values.vr,
+    let Ok(id1) = u8::try_from(values.id1) else {
+        return WriteAnswer::from(Err(WriteError::OutOfRange));
     };
-    let byte1 = id1 as u8;
-    let byte2 = id2 as u8;
-    answered(writing::write_hingeless(byte1, byte2, member, bytes))
+    let Ok(id2) = u8::try_from(values.id2) else {
+        return WriteAnswer::from(Err(WriteError::OutOfRange));
+    };
+    WriteAnswer::from(writing::write_values((id1, id2, Hingeless::from(values)), bytes))
 }
 
 // 06 wall base.
@@ -287,15 +392,7 @@ pub extern "C" fn eak_write_wall_base(values: WallBaseOperands, bytes: &mut [u8]
     ensures answer { result ≡ write_answer (write_of (wall_base_command values) (length bytes.old)) }
     ensures bytes { bytes.new ≡ bytes_after (wall_base_command values) bytes.old }
 {
-    let base = WallBase {
-        length: values.length,
-        thickness: values.thickness,
-        resistance: values.mr,
-        moment: values.me,
-        shear: values.ve,
-        strength: values.vr,
-    };
-    answered(writing::write_wall_base(base, bytes))
+    WriteAnswer::from(writing::write_values(WallBase::from(values), bytes))
 }
 
 // 07 storey.
@@ -304,15 +401,7 @@ pub extern "C" fn eak_write_storey(values: StoreyOperands, bytes: &mut [u8]) -> 
     ensures answer { result ≡ write_answer (write_of (storey_command values) (length bytes.old)) }
     ensures bytes { bytes.new ≡ bytes_after (storey_command values) bytes.old }
 {
-    let storey = Storey {
-        moment: values.me,
-        shear: values.ve,
-        inertia: values.j,
-        base_inertia: values.j0,
-        strength: values.vr,
-        resistance: values.ms,
-    };
-    answered(writing::write_storey(storey, bytes))
+    WriteAnswer::from(writing::write_values(Storey::from(values), bytes))
 }
 
 // 08 soil. Any 32 bits may come as the value: those that are no soil value, a NaN's among them, are out of range.
@@ -321,12 +410,7 @@ pub extern "C" fn eak_write_soil(values: SoilOperands, bytes: &mut [u8]) -> Writ
     ensures answer { result ≡ write_answer (write_of (soil_command values) (length bytes.old)) }
     ensures bytes { bytes.new ≡ bytes_after (soil_command values) bytes.old }
 {
-    let soil = SoilGiven {
-        kind: values.kind,
-        value: bits_of(values.value),
-        sensitive: values.sensitive,
-    };
-    answered(writing::write_soil(soil, bytes))
+    WriteAnswer::from(writing::write_values(SoilGiven::from(values), bytes))
 }
 
 // 09 footing.
@@ -335,24 +419,7 @@ pub extern "C" fn eak_write_footing(values: FootingOperands, bytes: &mut [u8]) -
     ensures answer { result ≡ write_answer (write_of (footing_command values) (length bytes.old)) }
     ensures bytes { bytes.new ≡ bytes_after (footing_command values) bytes.old }
 {
-    let footing = Footing {
-        breadth: values.b,
-        length: values.l,
-        resistance: values.mr,
-        moment: values.me,
-        nv: values.nv,
-        ne: values.ne,
-        xv: values.xv,
-        xe: values.xe,
-        yv: values.yv,
-        ye: values.ye,
-        hv: values.hv,
-        he: values.he,
-        uplift: values.u,
-        passive: values.p,
-        flags: values.flags,
-    };
-    answered(writing::write_footing(footing, bytes))
+    WriteAnswer::from(writing::write_values(Footing::from(values), bytes))
 }
 
 // 0A detail.
@@ -361,14 +428,7 @@ pub extern "C" fn eak_write_detail(values: DetailOperands, bytes: &mut [u8]) -> 
     ensures answer { result ≡ write_answer (write_of (detail_command values) (length bytes.old)) }
     ensures bytes { bytes.new ≡ bytes_after (detail_command values) bytes.old }
 {
-    let detail = Detail {
-        place: values.place,
-        ultimate: values.xu,
-        yielded: values.xy,
-        ductility: values.mu,
-        lap: values.lap,
-    };
-    answered(writing::write_detail(detail, bytes))
+    WriteAnswer::from(writing::write_values(Detail::from(values), bytes))
 }
 
 // 0B block of storeys: `count` sets of six words, each set in the order of `StoreyOperands`.
@@ -377,7 +437,7 @@ pub extern "C" fn eak_write_block(count: u32, sets: &[u32], bytes: &mut [u8]) ->
     ensures answer { result ≡ write_answer (write_block_of count sets.now (length bytes.old)) }
     ensures bytes { bytes.new ≡ block_bytes_after count sets.now bytes.old }
 {
-    answered(writing::write_block(count, sets, bytes))
+    WriteAnswer::from(writing::write_block(count, sets, bytes))
 }
 
 // 00 end, after the last command of a job.
@@ -386,5 +446,5 @@ pub extern "C" fn eak_write_end(bytes: &mut [u8]) -> WriteAnswer
     ensures answer { result ≡ write_answer (write_of finish (length bytes.old)) }
     ensures bytes { bytes.new ≡ bytes_after finish bytes.old }
 {
-    answered(writing::write_end(bytes))
+    WriteAnswer::from(writing::write_values(End, bytes))
 }

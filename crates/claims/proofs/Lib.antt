@@ -5,3 +5,4 @@ pub mod Rounded
 pub mod Bits
 pub mod Sizes
 pub mod Told
+pub mod UpperLower

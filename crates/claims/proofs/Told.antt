@@ -4,8 +4,14 @@ use mathlib.Core.Bool.{Bool, true, false, true≢false}
 use Prim.Native.Nat.{ℕ}
 use native.Mathlib.Omega.{arith}
 use lib.IntN.{ℤ, pos, nat_abs}
+use mir.Val.{bool_byte}
 use Rattle.claims.specs.Verdict.{flag}
 use Rattle.claims.specs.Told.{Tells}
+
+-- the word that code makes of a test
+pub told : (t : Bool) → bool_byte t ≡ flag 1 t
+told true = refl
+told false = refl
 
 pub is_one : (t : Bool) → pos (flag 1 t) ≡ pos 1 → t ≡ true
 is_one true e = refl

@@ -35,6 +35,8 @@ below_greater : (cap term other : Fraction) → Proper other → cap <F term →
 below_greater cap term other p h l =
     lt_of_mul-lt-mul_right term.den (omega (arith, h · other.den, l · cap.den))
 
+pub ruleset comparing = (smaller_first, smaller_second, below_governs, not_below)
+
 pub smaller_tells : (term cap : Fraction) → SmallerTells term cap
 smaller_tells term cap =
     record {
@@ -59,6 +61,8 @@ zero_governs g R E q h = ap (λ (t : Bool). t || lt_f (ratio q 100) (ratio (g * 
 pub else_governs : (g R E q : ℕ) → (E ≡ 0 → ⊥) → cap_governs g R E q ≡ lt_f (ratio q 100) (ratio (g * R) (100 * E))
 unfolding cap_governs
 else_governs g R E q h = ap (λ (t : Bool). t || lt_f (ratio q 100) (ratio (g * R) (100 * E))) (ne_eqb E 0 h)
+
+pub ruleset by_seismic = (zero_value, zero_governs, coefficient_else, else_governs)
 
 module _ (g R E q : ℕ) where
   abbrev term : Fraction

@@ -1,17 +1,11 @@
--- The text of a job stands at the start of the slice that it was written into, and a job that is too long has the same text whether all
--- of it was read or not. Assumes nothing.
-use Rattle.std.proofs.Common.{◌≡◌, ℕ, ◌+◌, ◌<◌, ◌≤◌, ℤ, List, ◌++◌, inl, inr, length, take, drop, Option, None, Some, IfSome, sym, ap, subst, refl, ◌∙◌, arith, append-nil, length-append, take_at, length-take-le}
-use Rattle.std.proofs.lemmas.Bool.{lt-ltb}
+-- A job that is too long has the same text whether all of it was read or not. Assumes nothing.
+use Rattle.std.proofs.Common.{◌≡◌, ℕ, ◌<◌, ◌≤◌, ℤ, List, ◌++◌, inl, inr, length, take, Option, None, Some, IfSome, sym, ap, subst, refl, ◌∙◌, arith, append-nil, length-append, length-take-le}
+use Rattle.std.specs.Prelude.{Result, Ok, Err, OnOk, MatchResult}
+use Rattle.std.specs.Result.{is_ok}
+use Rattle.std.proofs.lemmas.Bool.{lt-ltb, false≢true}
 use Rattle.std.proofs.Math.Nat.{eq-or-lt_of_le}
 use Rattle.std.specs.Io.KnownBytes.{Appends, Consumes, IsAtEnd}
-use Rattle.slices.specs.Written.{written, Writes}
 use Rattle.report.specs.Printed.{printed_of}
-
-pub read_back : {before text after : List ℕ} {n : ℕ} → Writes before 0 text after n → take n after ≡ text
-unfolding written
-read_back {before} {text} {after} {n} w =
-    let long : length text ≡ n = omega (arith, w.position) in
-    ap (take n) w.bytes ∙ take_at text (drop (0 + length text) before) n long
 
 -- what stands after the first 65,537 bytes of a job changes nothing
 pub printed_longer : (f : List ℤ → ℕ → List ℕ) (xs ys : List ℕ) → 65536 < length xs → printed_of f (xs ++ ys) ≡ printed_of f xs
@@ -35,3 +29,14 @@ printed_read f (Some xs) (Some ys) before after buffer n long within read end te
       | inr less ↦ ap (printed_of f) (read ∙ ap (λ l. take n buffer ++ l) (end less) ∙ append-nil (take n buffer))
     ] in
     subst (Appends before after) (sym same) text
+
+-- ---- where an error becomes a `Failure`, what is known of an `Ok` stays
+
+pub was_ok : {A E F : Type 0} (r : Result A E) (s : Result A F) (n : A) (W : E → Type 0) → MatchResult r (λ x. s ≡ Ok x) W → is_ok s ≡ is_ok r → s ≡ Ok n → r ≡ Ok n
+was_ok (Ok x) s n W m v e = let same : x ≡ n = cc in ap Ok same
+was_ok (Err x) s n W m v e = absurd (false≢true (sym v ∙ ap is_ok e))
+
+pub still_ok : {A B E F : Type 0} (r : Result A E) (s : Result B F) {P Q : Type 0} → is_ok s ≡ is_ok r → (P → Q) → OnOk r P → OnOk s Q
+still_ok (Ok x) (Ok y) v f p = f p
+still_ok (Err x) (Ok y) v f p = absurd (false≢true (sym v))
+still_ok r (Err y) v f p = tt

@@ -1,8 +1,7 @@
 -- What the rules ask of operands and of what holds, from a command whose values are in range. Assumes nothing.
-use mathlib.Core.List.{List}
-use mathlib.Core.Bool.{Bool, true}
+use mathlib.Core.Bool.{true}
 use mathlib.Core.Path.{◌≡◌}
-use Prim.Native.Nat.{ℕ, ◌+◌, ◌*◌}
+use Prim.Native.Nat.{ℕ, ◌≤◌}
 use mir.Syntax.{w32}
 use mir.Val.{SFits}
 use Rattle.coefficient.specs.declared.Settings.{Settings}
@@ -25,7 +24,7 @@ use Rattle.format.specs.declared.Command.TheVariants.{Settings as settings, Join
 use Rattle.format.specs.Commands.{in_range}
 use Rattle.format.specs.Types.{FootingFits}
 use Rattle.format.proofs.CommandRanges.{settings_in_range, joint_in_range, column_in_range, hingeless_in_range, storey_in_range, detail_in_range, wall_base_in_range, beam_in_range, footing_in_range}
-use Rattle.context.specs.Running.{joint_held, SettingsRange, SoundSums}
+use Rattle.context.specs.Running.{SettingsRange}
 
 pub settings_range : (s : Settings) → in_range (settings s) ≡ true → SettingsRange s
 settings_range s h =
@@ -35,16 +34,11 @@ settings_range s h =
 pub joint_range : (id : ℕ) (j : Joint) → in_range (joint id j) ≡ true → JointRange j
 joint_range id j h = let o = joint_in_range id j h in record { beams = o.beams; columns = o.columns; seismic = o.seismic }
 
--- off the sums of joints that were given so
-pub held_range : (room : Bool) (sums : List ℕ) (id : ℕ) → SoundSums room sums → JointRange (joint_held sums id)
-held_range room sums id s =
-    record { beams = s.entries (3 * id); columns = s.entries (3 * id + 1); seismic = s.entries (3 * id + 2) }
-
-pub wall_base_range : (s : Settings) → SettingsRange s → (b : WallBase) → in_range (wall_base b) ≡ true → WallBaseRange s.behaviour b
-wall_base_range s r b h =
+pub wall_base_range : (behaviour : ℕ) → behaviour ≤ 400 → (b : WallBase) → in_range (wall_base b) ≡ true → WallBaseRange behaviour b
+wall_base_range behaviour r b h =
     let o = wall_base_in_range b h in
     record {
-      behaviour = r.behaviour;
+      behaviour = r;
       length_least = o.length_least;
       length_greatest = o.length_greatest;
       thickness_least = o.thickness_least;

@@ -1,11 +1,12 @@
 -- The search by halving: the least k lies from `low` to `low + length`, and each turn takes half of the length away.
 -- Assumes nothing.
 use mathlib.Core.Path.{◌≡◌}
+use mathlib.Core.Logic.{◌⊎◌, ⊎_elim}
 use Prim.Native.Nat.{ℕ, ◌+◌, ◌-◌, ◌*◌, ◌/◌, ◌^◌, ◌≤◌, ◌<◌}
 use native.Mathlib.Omega.{arith}
 use Rattle.cubes.specs.Cube.{cube}
-use Rattle.cubes.specs.Root.{Least}
-use Rattle.cubes.proofs.Roots.{Short, short_to, cube_mono}
+use Rattle.cubes.specs.Root.{Least, least_root}
+use Rattle.cubes.proofs.Roots.{Short, short_to, cube_mono, least_is}
 
 -- no number below `low` is enough, and `low + length` is; `rest` is what a turn leaves of the length, at least half of it
 pub record Bracket (j j0 low length rest : ℕ) : Type 0 where
@@ -55,3 +56,14 @@ keep j j0 low length rest added b p h e =
 pub met : {j j0 low length rest : ℕ} → Bracket j j0 low length rest → length ≤ 0 → Least j j0 low
 met {low = low} {length} b h =
     let e : low + length ≡ low = omega arith in record { within = omega (arith, b.top); enough = rw e at b.enough; least = b.short }
+
+-- a turn adds the step, or nothing
+pub turn : {j j0 low length rest added : ℕ} → Bracket j j0 low length rest → 0 < length →
+    ((cube (tried low length rest) * j0 < 10 ^ 9 * j) × (added ≡ length - rest)) ⊎ ((10 ^ 9 * j ≤ cube (tried low length rest) * j0) × (added ≡ 0)) →
+    Bracket j j0 (low + added) rest (rest / 2)
+turn {j} {j0} {low} {length} {rest} {added} b p s =
+    ⊎_elim (λ w. raise j j0 low length rest added b p w.0 w.1) (λ w. keep j j0 low length rest added b p w.0 w.1) s
+
+-- then `low` is the root
+pub found : {j j0 low length rest : ℕ} → Bracket j j0 low length rest → length ≤ 0 → low ≡ least_root j j0
+found b h = least_is (met b h)

@@ -3,4 +3,3 @@ pub mod Figures
 pub mod Halving
 pub mod Roots
 pub mod Rule
-pub mod Lent

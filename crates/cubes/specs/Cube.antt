@@ -9,7 +9,3 @@ cube k = k * k * k
 pub record IsCubes (table : List ℕ) : Type 0 where
   pub count : length table ≡ 1001
   pub entry : (k : ℕ) → k ≤ 1000 → get_or table k 0 ≡ cube k
-
--- a slice that a search may use: where it has 1,001 entries they are the cubes; with another length it lends none
-pub record LentCubes (table : List ℕ) : Type 0 where
-  pub cubes : length table ≡ 1001 → IsCubes table

@@ -63,15 +63,16 @@ nat_abs_neg (pos zero) = refl
 nat_abs_neg (pos (suc n)) = refl
 nat_abs_neg (negsuc n) = refl
 
-pub nat_abs_sub_ℕ : (a b : ℕ) → nat_abs (sub_ℕ a b) ≤ a + b
-nat_abs_sub_ℕ a b =
-    by_test (ltb a b) (negsuc (b - suc a)) (pos (a - b)) (λ z. nat_abs z ≤ a + b) (λ t. less a b (ltb→lt a b t)) (λ t. more a b)
+-- the size of a difference
+pub size_of_difference : (a b : ℕ) → nat_abs (sub_ℕ a b) ≡ (a - b) + (b - a)
+size_of_difference a b = by (sub_ℕ a b) (sub_ℕ_law a b)
   where
-    less : (a b : ℕ) → a < b → suc (b - suc a) ≤ a + b
-    less a b h = omega arith
+    by : (z : ℤ) → above z + b ≡ below z + a → nat_abs z ≡ (a - b) + (b - a)
+    by (pos n) e = omega arith
+    by (negsuc n) e = omega arith
 
-    more : (a b : ℕ) → a - b ≤ a + b
-    more a b = omega arith
+pub nat_abs_sub_ℕ : (a b : ℕ) → nat_abs (sub_ℕ a b) ≤ a + b
+nat_abs_sub_ℕ a b = omega (arith, size_of_difference a b)
 
 pub nat_abs_+ℤ : (x y : ℤ) → nat_abs (x +ℤ y) ≤ nat_abs x + nat_abs y
 nat_abs_+ℤ (pos a) (pos b) = omega arith

@@ -1,127 +1,53 @@
--- What the steps of `floor_div` and `ceil_div` come to, one law for each path, over plain integers. Assumes nothing.
-use mathlib.Core.Path.{◌≡◌, refl, sym, subst}
-use mathlib.Core.Bool.{Bool, true, false}
-use Prim.Native.Nat.{ℕ, zero, suc, ◌+◌, ◌-◌, ◌/◌, ◌<◌}
+-- A sum rounded by `div_euclid` of std: what its total is, that it and its quotients fit an i64, and what they come to.
+-- Assumes nothing.
+use mathlib.Core.Path.{◌≡◌, refl, ap, ◌∙◌}
+use Prim.Native.Nat.{ℕ, ◌*◌, ◌^◌, ◌<◌, ◌≤◌}
 use native.Mathlib.Omega.{arith}
-use native.Mathlib.Nat.{div-le_self, div-mul-le_self, lt-div-mul-add}
-use borrow.Author.Tests.{leb-false, leb-true}
-use lib.Dec.{T, ltb→lt}
-use lib.IntN.{ℤ, pos, negsuc, neg_ℤ, ◌+ℤ◌, ◌-ℤ◌, nat_abs}
-use lib.Signed.{◌<ℤ◌, le_z, quot_z}
+use native.Mathlib.Nat.{mul-le-mul_left}
+use lib.IntN.{ℤ, pos, negsuc, neg_ℤ, sub_ℕ, ◌-ℤ◌, nat_abs}
 use mir.Syntax.{w64}
-use mir.Val.{SFits, of_z}
-use Rattle.exact.specs.Quotient.{up, down_ℤ, up_ℤ}
-use Rattle.exact.proofs.Integers.{ints, ≡_in, fits_in, -ℤ_law, above_neg, below_neg}
-use Rattle.exact.proofs.Rounding.{up_ℤ_is, up_is}
+use mir.Val.{SFits}
+use Rattle.std.specs.Int.{int_div_euclid}
+use Rattle.exact.specs.Quotient.{down_ℤ, up_ℤ}
+use Rattle.exact.specs.SignedFraction.{SignedFraction, whole_s, ratio_s, ◌+S◌, down_s, up_s}
+use Rattle.exact.specs.Sums.{SumFits}
+use Rattle.exact.proofs.Integers.{nat_abs_law, nat_abs_neg, nat_abs_sub_ℕ, negated, fits_size}
+use Rattle.exact.proofs.Rounding.{down_ℤ_size}
 
--- a divisor above 0 has bits above 0
-pub divisor : (d : ℤ) → pos 0 <ℤ d → 0 < of_z w64 d
-divisor (pos b) h = ltb→lt 0 b h.lt
-divisor (negsuc b) h = absurd h.lt
+-- ---- what `div_euclid` ensures
 
-T_of : (b : Bool) → b ≡ true → T b
-T_of b e = subst T (sym e) tt
-
-not_below_zero : (a : ℕ) → a < 0 → ⊥
-not_below_zero a h = omega arith
-
--- ---- floor
-
--- n from 0 on: the quotient itself
-pub record Floor0 (n d : ℤ) : Type 0 where
-  pub fits : SFits w64 (quot_z n d)
-  pub is : quot_z n d ≡ down_ℤ n (nat_abs d)
-
-pub floor0 : (n d : ℤ) → SFits w64 n → pos 0 <ℤ d → le_z (pos 0) n ≡ true → Floor0 n d
+floor_signed : (n : ℤ) (d : ℕ) → int_div_euclid n (pos d) ≡ down_ℤ n d
 unfolding down_ℤ
-floor0 (pos a) (pos b) f h k =
-    record { fits = fits_in (pos (a / b)) (omega (ints, div-le_self a b)) (omega arith); is = refl }
-floor0 (pos a) (negsuc b) f h k = absurd h.lt
-floor0 (negsuc a) d f h k = absurd (T_of false k)
+floor_signed (pos a) d = refl
+floor_signed (negsuc a) d = refl
 
--- n below 0: −1 − (−1 − n) / d
-pub record Floor1 (n d : ℤ) : Type 0 where
-  pub fits : SFits w64 (negsuc 0 -ℤ n)
-  pub fits_2 : SFits w64 (quot_z (negsuc 0 -ℤ n) d)
-  pub fits_3 : SFits w64 (negsuc 0 -ℤ quot_z (negsuc 0 -ℤ n) d)
-  pub is : negsuc 0 -ℤ quot_z (negsuc 0 -ℤ n) d ≡ down_ℤ n (nat_abs d)
+-- minus the down of minus n
+ceil_signed : (n : ℤ) (d : ℕ) → neg_ℤ (int_div_euclid (neg_ℤ n) (pos d)) ≡ up_ℤ n d
+unfolding up_ℤ
+ceil_signed n d = ap neg_ℤ (floor_signed (neg_ℤ n) d)
 
-pub minus_one_minus : (a : ℕ) → negsuc 0 -ℤ pos a ≡ negsuc a
-minus_one_minus a = ≡_in (negsuc 0 -ℤ pos a) (negsuc a) (omega (arith, -ℤ_law (negsuc 0) (pos a)))
+-- ---- of a sum s with the total t
 
-pub minus_one_minus_below : (a : ℕ) → negsuc 0 -ℤ negsuc a ≡ pos a
-minus_one_minus_below a = ≡_in (negsuc 0 -ℤ negsuc a) (pos a) (omega (arith, -ℤ_law (negsuc 0) (negsuc a)))
+module _ (w n : ℤ) (d : ℕ) (s : SignedFraction) (t q : ℤ) (f : SumFits w n d) (v : whole_s w +S ratio_s n d ≡ s) (e : t ≡ sub_ℕ s.plus s.minus) where
+  same_den : s.den ≡ d
+  same_den = omega (arith, ap (λ (x : SignedFraction). x.den) v)
 
-pub floor1 : (n d : ℤ) → SFits w64 n → pos 0 <ℤ d → le_z (pos 0) n ≡ false → Floor1 n d
-unfolding down_ℤ
-floor1 (pos a) d f h k = absurd (not_below_zero a (leb-false 0 a k))
-floor1 (negsuc a) (negsuc b) f h k = absurd h.lt
-floor1 (negsuc a) (pos b) f h k =
-    let l = div-le_self a b in
-    record {
-      fits = rw (minus_one_minus_below a) (fits_in (pos a) (omega ints) (omega arith));
-      fits_2 = rw (minus_one_minus_below a) (fits_in (pos (a / b)) (omega ints) (omega arith));
-      fits_3 = rw (minus_one_minus_below a, minus_one_minus (a / b)) (fits_in (negsuc (a / b)) (omega arith) (omega ints));
-      is = rw (minus_one_minus_below a, minus_one_minus (a / b));
-    }
+  total_size : nat_abs t < 2 ^ 63
+  total_size =
+      omega (arith, ap nat_abs e, nat_abs_sub_ℕ s.plus s.minus, ap (λ (x : SignedFraction). x.plus) v, ap (λ (x : SignedFraction). x.minus) v, ap (λ (k : ℕ). k * d) (nat_abs_law w), nat_abs_law n, f.fits)
 
--- ---- ceiling
+  pub negative_fits : SFits w64 (pos 0 -ℤ t)
+  negative_fits = rw (negated t) (fits_size (neg_ℤ t) (rw (nat_abs_neg t) total_size))
 
--- n up to 0: the quotient itself
-pub record Ceil0 (n d : ℤ) : Type 0 where
-  pub fits : SFits w64 (quot_z n d)
-  pub is : quot_z n d ≡ up_ℤ n (nat_abs d)
+  pub quotient_fits : q ≡ int_div_euclid (pos 0 -ℤ t) (pos d) → SFits w64 (pos 0 -ℤ q)
+  quotient_fits h =
+      let many : nat_abs (neg_ℤ t) ≤ nat_abs t * d = omega (arith, nat_abs_neg t, mul-le-mul_left (nat_abs t) f.positive) in
+      let is : q ≡ down_ℤ (neg_ℤ t) d = h ∙ ap (λ (z : ℤ). int_div_euclid z (pos d)) (negated t) ∙ floor_signed (neg_ℤ t) d in
+      rw (negated q)
+      (fits_size (neg_ℤ q) (omega (arith, nat_abs_neg q, ap nat_abs is, down_ℤ_size (neg_ℤ t) d (nat_abs t) many f.positive, total_size)))
 
-pub ceil0 : (n d : ℤ) → SFits w64 n → pos 0 <ℤ d → le_z n (pos 0) ≡ true → Ceil0 n d
-ceil0 n (negsuc b) f h k = absurd h.lt
-ceil0 (pos a) (pos b) f h k =
-    let z : a ≡ 0 = omega (arith, leb-true a 0 k) in
-    let l = div-le_self a b in
-    let p : 0 < b = ltb→lt 0 b h.lt in
-    record {
-      fits = fits_in (pos (a / b)) (omega arith) (omega arith);
-      is = up_ℤ_is (pos a) (pos (a / b)) b p (omega arith) (omega (arith, div-mul-le_self a b));
-    }
-ceil0 (negsuc a) (pos b) f h k =
-    let l = div-le_self (suc a) b in
-    let p : 0 < b = ltb→lt 0 b h.lt in
-    let q = pos (suc a / b) in
-    let u = above_neg q in
-    let v = below_neg q in
-    record {
-      fits = fits_in (neg_ℤ q) (omega arith) (omega ints);
-      is = up_ℤ_is (negsuc a) (neg_ℤ q) b p
-          (rw (u, v) (omega (arith, div-mul-le_self (suc a) b)))
-          (rw (u, v) (omega (arith, lt-div-mul-add {a = suc a} p)));
-    }
+  pub down_read : q ≡ int_div_euclid t (pos d) → q ≡ down_s s
+  down_read h = let g = floor_signed t d in let k = same_den in cc
 
--- n above 0: 1 + (n − 1) / d
-pub record Ceil1 (n d : ℤ) : Type 0 where
-  pub fits : SFits w64 (n -ℤ pos 1)
-  pub fits_2 : SFits w64 (quot_z (n -ℤ pos 1) d)
-  pub fits_3 : SFits w64 (pos 1 +ℤ quot_z (n -ℤ pos 1) d)
-  pub is : pos 1 +ℤ quot_z (n -ℤ pos 1) d ≡ up_ℤ n (nat_abs d)
-
-pub one_less : (a : ℕ) → pos (suc a) -ℤ pos 1 ≡ pos a
-one_less a = ≡_in (pos (suc a) -ℤ pos 1) (pos a) (omega (arith, -ℤ_law (pos (suc a)) (pos 1)))
-
-pub ceil1 : (n d : ℤ) → SFits w64 n → pos 0 <ℤ d → le_z n (pos 0) ≡ false → Ceil1 n d
-ceil1 n (negsuc b) f h k = absurd h.lt
-ceil1 (negsuc a) (pos b) f h k = absurd (subst T k tt)
-ceil1 (pos zero) (pos b) f h k = absurd (not_below_zero 0 (leb-false 0 0 k))
-ceil1 (pos (suc a)) (pos b) f h k =
-    let l = div-le_self a b in
-    let p : 0 < b = ltb→lt 0 b h.lt in
-    record {
-      fits = rw (one_less a) (fits_in (pos a) (omega ints) (omega arith));
-      fits_2 = rw (one_less a) (fits_in (pos (a / b)) (omega ints) (omega arith));
-      fits_3 = rw (one_less a) (fits_in (pos (1 + a / b)) (omega ints) (omega arith));
-      is = rw (one_less a) (up_ℤ_is (pos (suc a)) (pos (1 + a / b)) b p (omega (arith, lt-div-mul-add {a = a} p)) (omega (arith, div-mul-le_self a b)));
-    }
-
--- the same of naturals
-pub ceil_unsigned : (n d : ℕ) → 0 < d → (n ≡ 0 → ⊥) → 1 + (n - 1) / d ≡ up n d
-ceil_unsigned n d h k = up_is n d (1 + (n - 1) / d) h (omega (arith, lt-div-mul-add {a = n - 1} h)) (omega (arith, div-mul-le_self (n - 1) d))
-
-pub ceil_zero : (d : ℕ) → 0 < d → 0 ≡ up 0 d
-ceil_zero d h = up_is 0 d 0 h (omega arith) (omega arith)
+  pub up_read : q ≡ int_div_euclid (pos 0 -ℤ t) (pos d) → pos 0 -ℤ q ≡ up_s s
+  up_read h = let g = ceil_signed t d in let k = same_den in let a = negated t in let b = negated q in cc

@@ -2,11 +2,12 @@
 -- that a number between those bounds is the rounded one, that rounding up keeps the order, and how large a rounded number is.
 -- Assumes nothing.
 use mathlib.Core.Path.{◌≡◌, ap}
-use Prim.Native.Nat.{ℕ, suc, ◌+◌, ◌-◌, ◌*◌, ◌/◌, ◌≤◌, ◌<◌}
+use Prim.Native.Nat.{ℕ, suc, ◌+◌, ◌-◌, ◌*◌, ◌/◌, ◌%◌, ◌≤◌, ◌<◌, min}
 use native.Mathlib.Omega.{arith}
 use native.Mathlib.Nat.{div-mul-le_self, lt-div-mul-add, lt_of_mul-lt-mul_right, mul-le-mul_right}
 use lib.IntN.{ℤ, pos, negsuc, neg_ℤ, sub_ℕ, nat_abs, ◌+ℤ◌, ◌*ℤ◌}
 use lib.Signed.{◌≤ℤ◌, ◌<ℤ◌}
+use Rattle.std.proofs.lemmas.Grind.{div_ceil_times}
 use Rattle.exact.specs.Quotient.{up, down, up_ℤ, down_ℤ}
 use Rattle.exact.specs.Fraction.{Fraction, Proper, up_f, ◌≤F◌, ◌≈F◌}
 use Rattle.exact.specs.SignedFraction.{SignedFraction, ProperS, above, below, up_s, down_s}
@@ -53,6 +54,10 @@ down_is n d r h a b =
     let k : r ≤ down n d = step d r (down n d) (omega (arith, down_lt n d h)) in
     let l : down n d ≤ r = step d (down n d) r (omega (arith, down_le n d)) in
     omega arith
+
+-- what `div_ceil` of std ensures
+pub ceil_is : (n d : ℕ) → 0 < d → n / d + min 1 (n % d) ≡ up n d
+ceil_is n d h = let t = div_ceil_times n d h in up_is n d _ h t.0 t.1
 
 -- of two fractions the smaller is rounded up to no more than the other, and the same number to the same
 pub up_mono : (x y : Fraction) → Proper x → Proper y → x ≤F y → up_f x ≤ up_f y
@@ -110,7 +115,7 @@ up_ℤ_is n r d h a b =
 
 -- ---- how large they are: a quotient of a size of at most b, rounded, is of a size of at most b
 
-down_ℤ_size : (n : ℤ) (d b : ℕ) → nat_abs n ≤ b * d → 0 < d → nat_abs (down_ℤ n d) ≤ b
+pub down_ℤ_size : (n : ℤ) (d b : ℕ) → nat_abs n ≤ b * d → 0 < d → nat_abs (down_ℤ n d) ≤ b
 unfolding down_ℤ
 down_ℤ_size (pos a) d b h p = step d (a / d) b (omega (arith, div-mul-le_self a d))
 down_ℤ_size (negsuc a) d b h p = step d (suc (a / d)) b (omega (arith, div-mul-le_self a d))

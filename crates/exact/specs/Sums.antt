@@ -1,6 +1,7 @@
--- What the functions on whole + num/den ask: a positive denominator, and that (whole·den + num) fits an i64.
-use Rattle.std.specs.Prelude.{◌+◌, ◌*◌, ◌^◌, ◌<◌, ℤ, pos, nat_abs, ◌<ℤ◌}
+-- What a sum whole + num/den asks: a positive denominator, and that it and (whole·den + num) fit an i64.
+use Rattle.std.specs.Prelude.{ℕ, ◌+◌, ◌*◌, ◌^◌, ◌<◌, ℤ, nat_abs}
 
-pub record SumFits (whole num den : ℤ) : Type 0 where
-  pub positive : pos 0 <ℤ den
-  pub fits : nat_abs whole * nat_abs den + nat_abs num < 2 ^ 63
+pub record SumFits (whole num : ℤ) (den : ℕ) : Type 0 where
+  pub positive : 0 < den
+  pub den_fits : den < 2 ^ 63
+  pub fits : nat_abs whole * den + nat_abs num < 2 ^ 63

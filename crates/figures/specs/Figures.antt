@@ -1,5 +1,5 @@
 -- 01, "Figures to hold to": every line marked [p], one statement about the rules. Operands that the paper leaves open are any.
-use Rattle.std.specs.Prelude.{◌≡◌, Bool, true, false, ℕ, ◌+◌, ◌*◌, ◌≤◌, ℤ, pos, neg_ℤ, Float}
+use Rattle.std.specs.Prelude.{◌≡◌, Bool, ℕ, ◌+◌, ◌*◌, ◌≤◌, ℤ, pos, neg_ℤ, Float}
 use Rattle.std.specs.Float.{binary32}
 use Rattle.std.specs.Float.Ieee.{of_bits}
 use Rattle.exact.specs.Fraction.{Fraction, ratio, ◌<F◌}
@@ -14,6 +14,8 @@ use Rattle.members.specs.Hingeless.{hingeless_row}
 use Rattle.members.specs.Detail.{detail_row}
 use Rattle.walls.specs.Base.{wall_coefficient, base_row}
 use Rattle.walls.specs.Storey.{storey_row}
+use Rattle.actions.specs.declared.Sign.{Sign}
+use Rattle.actions.specs.declared.Sign.TheVariants.{Plus, Minus}
 use Rattle.footing.specs.Rows.{footing_row}
 use Rattle.figures.specs.Operands.{settings, q, column, beam, first_joint, other_joint, hingeless, wall, storey, footing, detail}
 
@@ -42,10 +44,10 @@ Storeys J0 k shear =
     (length thickness VRbase J ME VR MS : ℕ) → 1 ≤ J →
     StoreyIs (storey_row q (wall 2000000 length thickness VRbase) (storey J (J0 J) ME VR MS)) k shear
 
--- the row of the footing with these flags, on any soil with t 5000, in the direction with sign − where `minus`
-abbrev pub FootingRows : (flags : ℕ) → (minus : Bool) → (n ex h r : ℕ) → Type 0
-FootingRows flags minus n ex h r =
-    (x : Float) (sensitive : Bool) → tangent_of x ≡ 5000 → FootingIs (footing_row settings (footing flags) (Granular x) sensitive minus) n ex h r
+-- the row of the footing with these flags, on any soil with t 5000, in the direction with this sign
+abbrev pub FootingRows : (flags : ℕ) → (sign : Sign) → (n ex h r : ℕ) → Type 0
+FootingRows flags sign n ex h r =
+    (x : Float) (sensitive : Bool) → tangent_of x ≡ 5000 → FootingIs (footing_row settings (footing flags) (Granular x) sensitive sign) n ex h r
 
 pub record Figures : Type 0 where
   -- Column 3000, R 200000, 200000, 180000, 210000, VE 80000: 186,667
@@ -77,11 +79,11 @@ pub record Figures : Type 0 where
   pub tangent_half : take_down 0 (of_bits binary32 0x3F00_0000) ≡ accepted 5000
   -- Footing 2000 by 3000 on granular soil with t 5000: N 1,240,000, ex 80, H 164,000, R 660,000; then 760,000, 3, 124,000, 420,000.
   -- 02, No. 6: "The footing figures are read with flags 4"
-  pub footing_plus : FootingRows 4 false 1240000 80 164000 660000
-  pub footing_minus : FootingRows 4 true 760000 3 124000 420000
+  pub footing_plus : FootingRows 4 Plus 1240000 80 164000 660000
+  pub footing_minus : FootingRows 4 Minus 760000 3 124000 420000
   -- with flags 0 the thrust of 100,000 N adds nothing: R is 40,000 N less in both
-  pub no_contact_plus : FootingRows 0 false 1240000 80 164000 620000
-  pub no_contact_minus : FootingRows 0 true 760000 3 124000 380000
+  pub no_contact_plus : FootingRows 0 Plus 1240000 80 164000 620000
+  pub no_contact_minus : FootingRows 0 Minus 760000 3 124000 380000
   -- xy 250, mu 1000: xu 131 passes, 132 does not
   pub detail_passes : (place lap : ℕ) → BitClear 32 (detail_row (detail 131 place lap)).verdict
   pub detail_fails : (place lap : ℕ) → BitClear 32 (detail_row (detail 132 place lap)).verdict → ⊥

@@ -20,6 +20,7 @@ use Rattle.coefficient.specs.declared.Settings.{Settings}
 use Rattle.claims.specs.declared.Row.{Row}
 use Rattle.claims.specs.Verdict.{flag}
 use Rattle.claims.specs.Claims.{BitClear}
+use Rattle.actions.specs.declared.Sign.{Sign}
 use Rattle.footing.specs.declared.Footing.{Footing}
 use Rattle.footing.specs.Flags.{bit_set, contact, counted_thrust}
 use Rattle.footing.specs.Actions.{footing_coefficient, normal, moment_b, moment_l, horizontal}
@@ -46,25 +47,25 @@ adds_more x P Q h = omega (arith, h · (x.den * x.den))
 
 -- ---- R with the contact and without it
 
-module _ (s : Settings) (f : Footing) (soil : Soil) (sensitive minus : Bool) where
+module _ (s : Settings) (f : Footing) (soil : Soil) (sensitive : Bool) (sign : Sign) where
   -- R with the P that counts
-  resists : (P : ℕ) → counted_thrust f ≡ P → ResistsWith P f soil (footing_row s f soil sensitive minus)
+  resists : (P : ℕ) → counted_thrust f ≡ P → ResistsWith P f soil (footing_row s f soil sensitive sign)
   resists P e h =
-      subst (λ (row : Row). row.word6 ≡ pos (resistance_with P f soil row)) (sym (heavy_is s f soil sensitive minus (is_heavy s f soil sensitive minus h)))
-      (ap (λ (k : ℕ). pos (resistance_with k f soil (heavy_of s f soil sensitive minus))) e)
+      subst (λ (row : Row). row.word6 ≡ pos (resistance_with P f soil row)) (sym (heavy_is s f soil sensitive sign (is_heavy s f soil sensitive sign h)))
+      (ap (λ (k : ℕ). pos (resistance_with k f soil (heavy_of s f soil sensitive sign))) e)
 
-  any_thrust : contact f ≡ false → (P : ℕ) → footing_row s (given P f.flags f) soil sensitive minus ≡ footing_row s f soil sensitive minus
+  any_thrust : contact f ≡ false → (P : ℕ) → footing_row s (given P f.flags f) soil sensitive sign ≡ footing_row s f soil sensitive sign
   unfolding footing_row
   any_thrust e P = rw e
 
-  pub counted : Counted s f soil sensitive minus
+  pub counted : Counted s f soil sensitive sign
   counted =
       record {
         undeclared = λ e. resists 0 (counts_not f e);
-        exact_undeclared = λ e. adds_nothing (exact_base s f soil minus) (counted_thrust f) (counts_not f e);
+        exact_undeclared = λ e. adds_nothing (exact_base s f soil sign) (counted_thrust f) (counts_not f e);
         any_thrust = any_thrust;
         declared = λ e. resists f.passive (counts f e);
-        exact_declared = λ e. ap (λ (k : ℕ). exact_base s f soil minus +F ratio (2 * k) 5) (counts f e);
+        exact_declared = λ e. ap (λ (k : ℕ). exact_base s f soil sign +F ratio (2 * k) 5) (counts f e);
       }
 
 -- ---- an author sets the bit
@@ -100,9 +101,9 @@ bit_8 e R S h l = by (ltb R h) refl (ltb S h) refl
     by false p true q = absurd (omega (arith, ltb-false R h p, ltb-true S h q, l))
 
 -- the exact base resistance does not depend on P or the flags
-same_base : (s : Settings) (f : Footing) (P flags : ℕ) (soil : Soil) (minus : Bool) → exact_base s (given P flags f) soil minus ≡ exact_base s f soil minus
-same_base s f P flags (Granular x) minus = refl
-same_base s f P flags (Cohesive x) minus = refl
+same_base : (s : Settings) (f : Footing) (P flags : ℕ) (soil : Soil) (sign : Sign) → exact_base s (given P flags f) soil sign ≡ exact_base s f soil sign
+same_base s f P flags (Granular x) sign = refl
+same_base s f P flags (Cohesive x) sign = refl
 
 -- a row that stays, as that with N below 20,000
 unchanged : (r : Row) → ResistanceAlone r r
@@ -116,17 +117,17 @@ unchanged r =
       verdict = inl refl;
     }
 
-module _ (s : Settings) (f : Footing) (soil : Soil) (sensitive minus : Bool) (e : contact f ≡ false) where
+module _ (s : Settings) (f : Footing) (soil : Soil) (sensitive : Bool) (sign : Sign) (e : contact f ≡ false) where
   -- R grows by two fifths of P
   more : (ex ey n : ℕ) → sliding_resistance (with_contact f) soil ex ey n ≡ sliding_resistance f soil ex ey n + down (2 * f.passive) 5
   more ex ey n = rw (counts (with_contact f) (set_after f.flags e)) (omega (arith, counts_not f e, down_le (2 * counted_thrust f) 5))
 
-  heavy_rows : ResistanceAlone (heavy_of s f soil sensitive minus) (heavy_of s (with_contact f) soil sensitive minus)
+  heavy_rows : ResistanceAlone (heavy_of s f soil sensitive sign) (heavy_of s (with_contact f) soil sensitive sign)
   heavy_rows =
-      let n = nat_abs (down_s (normal s f minus)) in
-      let ex = eccentricity (up_f (size (moment_b s f minus))) n in
-      let ey = eccentricity (up_f (size (moment_l s f minus))) n in
-      let h = up_f (size (horizontal s f minus)) in
+      let n = nat_abs (down_s (normal s f sign)) in
+      let ex = eccentricity (up_f (size (moment_b s f sign))) n in
+      let ey = eccentricity (up_f (size (moment_l s f sign))) n in
+      let h = up_f (size (horizontal s f sign)) in
       let R = sliding_resistance f soil ex ey n in
       let S = sliding_resistance (with_contact f) soil ex ey n in
       let l : R ≤ S = omega (arith, more ex ey n) in
@@ -139,22 +140,22 @@ module _ (s : Settings) (f : Footing) (soil : Soil) (sensitive minus : Bool) (e 
         verdict = rw (both_stay f.flags) (bit_8 (eccentric s.behaviour f (footing_coefficient s f) sensitive ex ey) R S h l);
       }
 
-  rows : ResistanceAlone (footing_row s f soil sensitive minus) (footing_row s (with_contact f) soil sensitive minus)
-  rows = by (le_z (pos 20000) (down_s (normal s f minus))) refl
+  rows : ResistanceAlone (footing_row s f soil sensitive sign) (footing_row s (with_contact f) soil sensitive sign)
+  rows = by (le_z (pos 20000) (down_s (normal s f sign))) refl
     where
-      by : (t : Bool) → le_z (pos 20000) (down_s (normal s f minus)) ≡ t → ResistanceAlone (footing_row s f soil sensitive minus) (footing_row s (with_contact f) soil sensitive minus)
-      by true t = rw (heavy_is s f soil sensitive minus t, heavy_is s (with_contact f) soil sensitive minus t) heavy_rows
-      by false t = rw (light_is s f soil sensitive minus t, light_is s (with_contact f) soil sensitive minus t) (unchanged _)
+      by : (t : Bool) → le_z (pos 20000) (down_s (normal s f sign)) ≡ t → ResistanceAlone (footing_row s f soil sensitive sign) (footing_row s (with_contact f) soil sensitive sign)
+      by true t = rw (heavy_is s f soil sensitive sign t, heavy_is s (with_contact f) soil sensitive sign t) heavy_rows
+      by false t = rw (light_is s f soil sensitive sign t, light_is s (with_contact f) soil sensitive sign t) (unchanged _)
 
-  grows : pos 20000 ≤ℤ (footing_row s f soil sensitive minus).word2 →
-      (footing_row s (with_contact f) soil sensitive minus).word6 ≡ (footing_row s f soil sensitive minus).word6 +ℤ pos (down (2 * f.passive) 5)
+  grows : pos 20000 ≤ℤ (footing_row s f soil sensitive sign).word2 →
+      (footing_row s (with_contact f) soil sensitive sign).word6 ≡ (footing_row s f soil sensitive sign).word6 +ℤ pos (down (2 * f.passive) 5)
   grows h =
-      let t = is_heavy s f soil sensitive minus h in
-      let n = nat_abs (down_s (normal s f minus)) in
-      rw (heavy_is s f soil sensitive minus t, heavy_is s (with_contact f) soil sensitive minus t)
-      (ap pos (more (eccentricity (up_f (size (moment_b s f minus))) n) (eccentricity (up_f (size (moment_l s f minus))) n) n))
+      let t = is_heavy s f soil sensitive sign h in
+      let n = nat_abs (down_s (normal s f sign)) in
+      rw (heavy_is s f soil sensitive sign t, heavy_is s (with_contact f) soil sensitive sign t)
+      (ap pos (more (eccentricity (up_f (size (moment_b s f sign))) n) (eccentricity (up_f (size (moment_l s f sign))) n) n))
 
-  pub declares : Declares s f e soil sensitive minus
+  pub declares : Declares s f e soil sensitive sign
   declares =
       record {
         declared = set_after f.flags e;
@@ -162,6 +163,6 @@ module _ (s : Settings) (f : Footing) (soil : Soil) (sensitive minus : Bool) (e 
         rows = rows;
         grows = grows;
         exact =
-            rw (same_base s f f.passive (f.flags + 4) soil minus)
-            (adds_more (exact_base s f soil minus) (counted_thrust f) (counted_thrust (with_contact f)) (omega (arith, counts_not f e)));
+            rw (same_base s f f.passive (f.flags + 4) soil sign)
+            (adds_more (exact_base s f soil sign) (counted_thrust f) (counted_thrust (with_contact f)) (omega (arith, counts_not f e)));
       }

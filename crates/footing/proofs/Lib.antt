@@ -5,7 +5,6 @@ pub mod Directions
 pub mod Eccentricity
 pub mod Sliding
 pub mod Rows
-pub mod Read
 pub mod Sides
 pub mod Held
 pub mod Sizes

@@ -7,6 +7,7 @@ use Rattle.soil.specs.declared.Soil.{Soil}
 use Rattle.coefficient.specs.declared.Settings.{Settings}
 use Rattle.claims.specs.declared.Row.{Row}
 use Rattle.claims.specs.Claims.{BitClear}
+use Rattle.actions.specs.declared.Sign.{Sign}
 use Rattle.footing.specs.declared.Footing.{Footing}
 use Rattle.footing.specs.Flags.{both_flags, contact}
 use Rattle.footing.specs.Rows.{effective_area, base_resistance, footing_row}
@@ -44,15 +45,15 @@ given P flags f =
 abbrev pub ResistsWith : ℕ → Footing → Soil → Row → Type 0
 ResistsWith P f soil r = pos 20000 ≤ℤ r.word2 → r.word6 ≡ pos (resistance_with P f soil r)
 
-pub record Counted (s : Settings) (f : Footing) (soil : Soil) (sensitive minus : Bool) : Type 0 where
+pub record Counted (s : Settings) (f : Footing) (soil : Soil) (sensitive : Bool) (sign : Sign) : Type 0 where
   -- without the contact R is that of 01 with P = 0, and the exact strength is that of the base alone
-  pub undeclared : contact f ≡ false → ResistsWith 0 f soil (footing_row s f soil sensitive minus)
-  pub exact_undeclared : contact f ≡ false → exact_sliding s f soil minus ≈F exact_base s f soil minus
+  pub undeclared : contact f ≡ false → ResistsWith 0 f soil (footing_row s f soil sensitive sign)
+  pub exact_undeclared : contact f ≡ false → exact_sliding s f soil sign ≈F exact_base s f soil sign
   -- then no word of the row depends on P
-  pub any_thrust : contact f ≡ false → (P : ℕ) → footing_row s (given P f.flags f) soil sensitive minus ≡ footing_row s f soil sensitive minus
+  pub any_thrust : contact f ≡ false → (P : ℕ) → footing_row s (given P f.flags f) soil sensitive sign ≡ footing_row s f soil sensitive sign
   -- with it R is that of 01, and so is the exact strength
-  pub declared : contact f ≡ true → ResistsWith f.passive f soil (footing_row s f soil sensitive minus)
-  pub exact_declared : contact f ≡ true → exact_sliding s f soil minus ≡ exact_base s f soil minus +F ratio (2 * f.passive) 5
+  pub declared : contact f ≡ true → ResistsWith f.passive f soil (footing_row s f soil sensitive sign)
+  pub exact_declared : contact f ≡ true → exact_sliding s f soil sign ≡ exact_base s f soil sign +F ratio (2 * f.passive) 5
 
 -- ---- an author sets the bit
 
@@ -77,13 +78,13 @@ pub record ResistanceAlone (before after : Row) : Type 0 where
   pub verdict : (after.verdict ≡ before.verdict) ⊎ LosesBit8 before.verdict after.verdict
 
 -- what setting bit 2 changes, of a footing that has it clear
-pub record Declares (s : Settings) (f : Footing) (clear : contact f ≡ false) (soil : Soil) (sensitive minus : Bool) : Type 0 where
+pub record Declares (s : Settings) (f : Footing) (clear : contact f ≡ false) (soil : Soil) (sensitive : Bool) (sign : Sign) : Type 0 where
   pub declared : contact (with_contact f) ≡ true
   pub both_flags_kept : both_flags (with_contact f) ≡ both_flags f
-  pub rows : ResistanceAlone (footing_row s f soil sensitive minus) (footing_row s (with_contact f) soil sensitive minus)
+  pub rows : ResistanceAlone (footing_row s f soil sensitive sign) (footing_row s (with_contact f) soil sensitive sign)
   -- where N is at least 20,000, R grows by 2·P/5 down
   pub grows :
-      pos 20000 ≤ℤ (footing_row s f soil sensitive minus).word2 →
-      (footing_row s (with_contact f) soil sensitive minus).word6 ≡ (footing_row s f soil sensitive minus).word6 +ℤ pos (down (2 * f.passive) 5)
+      pos 20000 ≤ℤ (footing_row s f soil sensitive sign).word2 →
+      (footing_row s (with_contact f) soil sensitive sign).word6 ≡ (footing_row s f soil sensitive sign).word6 +ℤ pos (down (2 * f.passive) 5)
   -- the exact strength does not fall either
-  pub exact : exact_sliding s f soil minus ≤F exact_sliding s (with_contact f) soil minus
+  pub exact : exact_sliding s f soil sign ≤F exact_sliding s (with_contact f) soil sign

@@ -2,6 +2,5 @@
 pub mod Flags
 pub mod Actions
 pub mod Rows
-pub mod Ranges
 pub mod Claimed
 pub mod Contact

@@ -10,6 +10,7 @@ use Rattle.soil.specs.Taken.{tangent_of, cohesion_of}
 use Rattle.coefficient.specs.declared.Settings.{Settings}
 use Rattle.claims.specs.declared.Row.{Row}
 use Rattle.claims.specs.Verdict.{flag}
+use Rattle.actions.specs.declared.Sign.{Sign}
 use Rattle.footing.specs.declared.Footing.{Footing}
 use Rattle.footing.specs.Flags.{both_flags, counted_thrust}
 use Rattle.footing.specs.Actions.{footing_coefficient, normal, moment_b, moment_l, horizontal}
@@ -62,12 +63,12 @@ heavy_row s f soil sensitive n ex ey h =
     }
 
 -- N down; X, Y, H the size, up
-unfoldable pub footing_row : Settings → Footing → Soil → Bool → Bool → Row
-footing_row s f soil sensitive minus =
-    let n = down_s (normal s f minus) in
-    let x = up_f (size (moment_b s f minus)) in
-    let y = up_f (size (moment_l s f minus)) in
-    let h = up_f (size (horizontal s f minus)) in
+unfoldable pub footing_row : Settings → Footing → Soil → Bool → Sign → Row
+footing_row s f soil sensitive sign =
+    let n = down_s (normal s f sign) in
+    let x = up_f (size (moment_b s f sign)) in
+    let y = up_f (size (moment_l s f sign)) in
+    let h = up_f (size (horizontal s f sign)) in
     cond (le_z (pos 20000) n) (heavy_row s f soil sensitive (nat_abs n) (eccentricity x (nat_abs n)) (eccentricity y (nat_abs n)) h) (light_row n h)
 
 pub record FootingRange (s : Settings) (f : Footing) : Type 0 where

@@ -2,17 +2,19 @@
 // 01, "Soil and footing" and "Rows and verdict bits". What demand 3 claims of the row is in specs/Claimed.antt.
 #![tactic(auto)]
 
-ghost use Rattle.std.specs.Prelude.{◌≡◌, ◌&&◌, ◌-◌, ◌*◌, ◌≤◌, ◌<◌, ltb, pos, nat_abs, ◌*ℤ◌};
+ghost use Rattle.std.specs.Prelude.{◌≡◌, ◌&&◌, ◌*◌, ◌≤◌, ◌<◌, ltb, nat_abs};
 ghost use Rattle.exact.specs.Fraction.{up_f};
 ghost use Rattle.exact.specs.SignedFraction.{size, down_s};
 ghost use Rattle.coefficient.specs.Coefficient.{fraction};
+ghost use Rattle.actions.specs.Action.{action};
 ghost use Rattle.footing.specs.Flags.{counted_thrust};
-ghost use Rattle.footing.specs.Actions.{footing_coefficient, action};
+ghost use Rattle.footing.specs.Actions.{footing_coefficient, moment_b, moment_l};
 ghost use Rattle.footing.specs.Rows.{FootingRange, footing_row, heavy_row, light_row, eccentricity, effective_area, base_resistance, sliding_resistance, exception, outside as outside_of, eccentric as eccentric_of};
-ghost use Rattle.footing.specs.Ranges.{turned, Capped, ActionRange, RowRange};
 
+use actions::Sign;
 use claims::Row;
 use coefficient::{Quotient, Settings};
+use exact::Sum;
 use soil::Soil;
 
 // From this N on, in newtons, the row has eccentricities and a sliding resistance.
@@ -39,84 +41,174 @@ pub struct Footing {
     pub flags: u32,
 }
 
-// a, with g = gf, of the element above: one for both rows.
-pub fn footing_coefficient(settings: Settings, f: Footing) -> Quotient
-    requires { FootingRange settings f }
-    ensures { fraction result ≡ footing_coefficient settings f }
-{
-    let a = coefficient::coefficient(
-        settings.foundations,
-        f.resistance,
-        f.moment,
-        settings.behaviour,
-    );
-    a.value
+// A footing on its soil, with a, with g = gf, of the element above: one for both rows.
+#[derive(Clone, Copy)]
+pub struct FootingOnSoil {
+    pub settings: Settings,
+    pub footing: Footing,
+    pub soil: Soil,
+    pub sensitive: bool,
+    pub coefficient: Quotient,
+    pub ghost range: { FootingRange settings footing },
+    pub ghost is: { fraction coefficient ≡ footing_coefficient settings footing },
 }
 
-// ---- the actions V ± a·E
-
-// ± a·E over the denominator of a.
-fn seismic_part(a: Quotient, e: i32, minus: bool) -> i64
-    requires coefficient { Capped a }
-    requires seismic { nat_abs e ≤ 100000000 }
-    ensures { result ≡ turned minus (pos a.num *ℤ e) }
-{
-    let part = claims::word(a.num) * exact::long(e);
-    if minus { 0 - part } else { part }
+// ex and ey, 1000 times the moments over N, up.
+#[derive(Clone, Copy)]
+struct Eccentricities {
+    along_breadth: u64,
+    along_length: u64,
+    ghost breadth_fits: { along_breadth ≤ 500000000000 },
+    ghost length_fits: { along_length ≤ 500000000000 },
 }
 
-// V ± a·E, down.
-fn action_down(a: Quotient, v: i32, e: i32, minus: bool) -> i64
-    requires { ActionRange a v e }
-    ensures { result ≡ down_s (action minus (fraction a) v e) }
-{
-    exact::sum_down(
-        exact::long(v),
-        seismic_part(a, e, minus),
-        claims::word(a.den),
-    )
-}
+impl FootingOnSoil {
+    pub fn new(settings: Settings, footing: Footing, soil: Soil, sensitive: bool) -> Self
+        requires { FootingRange settings footing }
+        ensures settings { result.settings ≡ settings }
+        ensures footing { result.footing ≡ footing }
+        ensures soil { result.soil ≡ soil }
+        ensures sensitive { result.sensitive ≡ sensitive }
+    {
+        let a = coefficient::coefficient(
+            settings.foundations,
+            footing.resistance,
+            footing.moment,
+            settings.behaviour,
+        );
+        FootingOnSoil {
+            settings,
+            footing,
+            soil,
+            sensitive,
+            coefficient: a.value,
+        }
+    }
 
-// The size of V ± a·E without its sign, up.
-fn action_size(a: Quotient, v: i32, e: i32, minus: bool) -> u64
-    requires { ActionRange a v e }
-    ensures { result ≡ up_f (size (action minus (fraction a) v e)) }
-{
-    exact::size_up(
-        exact::long(v),
-        seismic_part(a, e, minus),
-        claims::word(a.den),
-    ) as u64
-}
+    // The row of the direction with this sign.
+    pub fn row(&self, sign: Sign) -> Row
+        ensures { result ≡ footing_row self.now.settings self.now.footing self.now.soil self.now.sensitive sign }
+    {
+        let f = self.footing;
+        let n = self.action(f.nv, f.ne, sign).down();
+        let h = self.action(f.hv, f.he, sign).size_up();
+        if LEAST_NORMAL <= n {
+            let normal = n as u64;
+            self.heavy_row(normal, self.eccentricities(sign, normal), h)
+        } else {
+            light_row(n, h)
+        }
+    }
 
-// 1000 times the size of V ± a·E over N, up.
-fn eccentricity_up(a: Quotient, v: i32, e: i32, minus: bool, n: u64) -> u64
-    requires range { ActionRange a v e }
-    requires positive { 0 < n }
-    ensures { result ≡ eccentricity (up_f (size (action minus (fraction a) v e))) n }
-{
-    let x = action_size(a, v, e, minus);
-    exact::ceil_div_unsigned(1000 * x, n)
-}
+    // ---- the actions V ± a·E
 
-// ---- the sliding resistance
+    fn action(&self, v: i32, e: i32, sign: Sign) -> Sum
+        requires steady { nat_abs v ≤ 100000000 }
+        requires seismic { nat_abs e ≤ 100000000 }
+        ensures value { result ≡ action sign (footing_coefficient self.now.settings self.now.footing) v e }
+        ensures size { up_f (size result) ≤ 500000000 }
+        ensures down { nat_abs (down_s result) ≤ 500000000 }
+    {
+        actions::action(self.coefficient, v, e, sign)
+    }
 
-// x - y, 0 when that is not positive.
-fn excess(x: u64, y: u64) -> u64
-    ensures { result ≡ x - y }
-{
-    if y < x { x - y } else { 0 }
-}
+    // 1000 times the size of V ± a·E over N, up.
+    #[tactic(auto, using(exact::proofs::Rounding::ceil_is, exact::proofs::Rounding::up_le_self))]
+    fn eccentricity_up(&self, v: i32, e: i32, sign: Sign, n: u64) -> u64
+        requires steady { nat_abs v ≤ 100000000 }
+        requires seismic { nat_abs e ≤ 100000000 }
+        requires positive { 0 < n }
+        ensures value { result ≡ eccentricity (up_f (size (action sign (footing_coefficient self.now.settings self.now.footing) v e))) n }
+        ensures bound { result ≤ 500000000000 }
+    {
+        (1000 * self.action(v, e, sign).size_up()).div_ceil(n)
+    }
 
-// A: both sides less twice their eccentricities.
-fn effective_area(f: Footing, ex: u64, ey: u64) -> u64
-    requires breadth { f.breadth ≤ 20000 }
-    requires length { f.length ≤ 20000 }
-    requires ex { ex ≤ 500000000000 }
-    requires ey { ey ≤ 500000000000 }
-    ensures { result ≡ effective_area f ex ey }
-{
-    excess(f.breadth as u64, 2 * ex) * excess(f.length as u64, 2 * ey)
+    fn eccentricities(&self, sign: Sign, n: u64) -> Eccentricities
+        requires { 0 < n }
+        ensures along_breadth { result.along_breadth ≡ eccentricity (up_f (size (moment_b self.now.settings self.now.footing sign))) n }
+        ensures along_length { result.along_length ≡ eccentricity (up_f (size (moment_l self.now.settings self.now.footing sign))) n }
+    {
+        let f = self.footing;
+        Eccentricities {
+            along_breadth: self.eccentricity_up(f.xv, f.xe, sign, n),
+            along_length: self.eccentricity_up(f.yv, f.ye, sign, n),
+        }
+    }
+
+    // ---- the sliding resistance
+
+    // A: both sides less twice their eccentricities.
+    fn effective_area(&self, e: Eccentricities) -> u64
+        ensures { result ≡ effective_area self.now.footing e.along_breadth e.along_length }
+    {
+        let breadth = u64::from(self.footing.breadth).saturating_sub(2 * e.along_breadth);
+        let length = u64::from(self.footing.length).saturating_sub(2 * e.along_length);
+        breadth * length
+    }
+
+    // R: the base, and two fifths of the passive thrust that counts.
+    #[tactic(auto, unfolding(exact::specs::Quotient::down))]
+    fn sliding_resistance(&self, e: Eccentricities, n: u64) -> u64
+        requires { n ≤ 500000000 }
+        ensures value { result ≡ sliding_resistance self.now.footing self.now.soil e.along_breadth e.along_length n }
+        ensures bound { result ≤ 1200000000 }
+    {
+        let area = self.effective_area(e);
+        let thrust = u64::from(counted_thrust(self.footing));
+        base_resistance(self.soil, area, n, self.footing.uplift) + 2 * thrust / 5
+    }
+
+    // ---- bit 4
+
+    // n·ex exceeds B, or n·ey exceeds L.
+    fn outside(&self, n: u64, e: Eccentricities) -> bool
+        requires { n ≤ 4 }
+        ensures { result ≡ outside_of n self.now.footing e.along_breadth e.along_length }
+    {
+        u64::from(self.footing.breadth) < n * e.along_breadth
+            || u64::from(self.footing.length) < n * e.along_length
+    }
+
+    // 2ex is below B, and 2ey below L.
+    fn inside_halves(&self, e: Eccentricities) -> bool
+        ensures { result ≡ (ltb (2 * e.along_breadth) self.now.footing.breadth && ltb (2 * e.along_length) self.now.footing.length) }
+    {
+        2 * e.along_breadth < u64::from(self.footing.breadth)
+            && 2 * e.along_length < u64::from(self.footing.length)
+    }
+
+    // Flags (bits 0 and 1 both set), q and a meet the exception.
+    fn excepted(&self) -> bool
+        ensures { result ≡ exception self.now.settings.behaviour self.now.footing (footing_coefficient self.now.settings self.now.footing) }
+    {
+        let a = self.coefficient;
+        let behaviour = u64::from(self.settings.behaviour);
+        self.footing.flags % 4 == 3 && 100 < behaviour && a.num * 100 < behaviour * a.den
+    }
+
+    // The resultant lies too far out.
+    fn eccentric(&self, e: Eccentricities) -> bool
+        ensures { result ≡ eccentric_of self.now.settings.behaviour self.now.footing (footing_coefficient self.now.settings self.now.footing) self.now.sensitive e.along_breadth e.along_length }
+    {
+        if self.sensitive {
+            return self.outside(4, e);
+        }
+        self.outside(3, e) && !(self.excepted() && self.inside_halves(e))
+    }
+
+    // ---- the row
+
+    // The row with N at least 20,000.
+    fn heavy_row(&self, n: u64, e: Eccentricities, h: u64) -> Row
+        requires normal { n ≤ 500000000 }
+        requires horizontal { h ≤ 500000000 }
+        ensures { result ≡ heavy_row self.now.settings self.now.footing self.now.soil self.now.sensitive n e.along_breadth e.along_length h }
+    {
+        let r = self.sliding_resistance(e, n);
+        let verdict = claims::verdict_of(4, self.eccentric(e), 8, h > r);
+        claims::packed(n, e.along_breadth, e.along_length, h, r, verdict)
+    }
 }
 
 // The resistance of the base, by the kind of soil.
@@ -128,12 +220,11 @@ fn base_resistance(soil: Soil, area: u64, n: u64, uplift: u32) -> u64
 {
     match soil {
         Soil::Granular(x) => {
-            let t = soil::tangent(x);
-            excess(n, uplift as u64) * (t as u64) / 10_000
+            n.saturating_sub(u64::from(uplift)) * u64::from(soil::tangent(x)) / 10_000
         }
         Soil::Cohesive(x) => {
-            let s = soil::cohesion(x);
-            exact::smaller(area * (s as u64) / 1_000_000, 2 * n / 5)
+            let s = u64::from(soil::cohesion(x));
+            (area * s / 1_000_000).min(2 * n / 5)
         }
     }
 }
@@ -144,78 +235,6 @@ fn counted_thrust(f: Footing) -> u32
 {
     if f.flags / 4 % 2 == 1 { f.passive } else { 0 }
 }
-
-// R: the base, and two fifths of the passive thrust that counts.
-fn sliding_resistance(f: Footing, soil: Soil, ex: u64, ey: u64, n: u64) -> u64
-    requires breadth { f.breadth ≤ 20000 }
-    requires length { f.length ≤ 20000 }
-    requires ex { ex ≤ 500000000000 }
-    requires ey { ey ≤ 500000000000 }
-    requires normal { n ≤ 500000000 }
-    ensures { result ≡ sliding_resistance f soil ex ey n }
-{
-    let area = effective_area(f, ex, ey);
-    let thrust = counted_thrust(f);
-    base_resistance(soil, area, n, f.uplift) + 2 * (thrust as u64) / 5
-}
-
-// ---- bit 4
-
-// n·ex exceeds B, or n·ey exceeds L.
-fn outside(n: u64, f: Footing, ex: u64, ey: u64) -> bool
-    requires factor { n ≤ 4 }
-    requires ex { ex ≤ 500000000000 }
-    requires ey { ey ≤ 500000000000 }
-    ensures { result ≡ outside_of n f ex ey }
-{
-    (f.breadth as u64) < n * ex || (f.length as u64) < n * ey
-}
-
-// 2ex is below B, and 2ey below L.
-fn inside_halves(f: Footing, ex: u64, ey: u64) -> bool
-    requires ex { ex ≤ 500000000000 }
-    requires ey { ey ≤ 500000000000 }
-    ensures { result ≡ (ltb (2 * ex) f.breadth && ltb (2 * ey) f.length) }
-{
-    2 * ex < (f.breadth as u64) && 2 * ey < (f.length as u64)
-}
-
-// Flags (bits 0 and 1 both set), q and a meet the exception.
-fn excepted(behaviour: u32, f: Footing, a: Quotient) -> bool
-    requires coefficient { Capped a }
-    requires behaviour { behaviour ≤ 400 }
-    ensures { result ≡ exception behaviour f (fraction a) }
-{
-    if f.flags % 4 != 3 {
-        return false;
-    }
-    if behaviour <= 100 {
-        return false;
-    }
-    a.num * 100 < (behaviour as u64) * a.den
-}
-
-// The resultant lies too far out.
-fn eccentric(behaviour: u32, f: Footing, a: Quotient, sensitive: bool, ex: u64, ey: u64) -> bool
-    requires coefficient { Capped a }
-    requires behaviour { behaviour ≤ 400 }
-    requires ex { ex ≤ 500000000000 }
-    requires ey { ey ≤ 500000000000 }
-    ensures { result ≡ eccentric_of behaviour f (fraction a) sensitive ex ey }
-{
-    if sensitive {
-        return outside(4, f, ex, ey);
-    }
-    if !outside(3, f, ex, ey) {
-        return false;
-    }
-    if !excepted(behaviour, f, a) {
-        return true;
-    }
-    !inside_halves(f, ex, ey)
-}
-
-// ---- the row
 
 // The row with N below 20,000.
 fn light_row(n: i64, h: u64) -> Row
@@ -229,51 +248,5 @@ fn light_row(n: i64, h: u64) -> Row
         word5: claims::word(h),
         word6: 0,
         verdict: 16,
-    }
-}
-
-// The row with N at least 20,000.
-fn heavy_row(
-    settings: Settings,
-    f: Footing,
-    soil: Soil,
-    sensitive: bool,
-    a: Quotient,
-    n: u64,
-    ex: u64,
-    ey: u64,
-    h: u64,
-) -> Row
-    requires { RowRange settings f a n ex ey h }
-    ensures { result ≡ heavy_row settings f soil sensitive n ex ey h }
-{
-    let r = sliding_resistance(f, soil, ex, ey, n);
-    let off_centre = eccentric(settings.behaviour, f, a, sensitive, ex, ey);
-    let verdict = claims::verdict_of(4, off_centre, 8, h > r);
-    claims::packed(n, ex, ey, h, r, verdict)
-}
-
-// The row of the direction with sign +, or with sign − where `minus`, from the footing's coefficient.
-pub fn footing_row(
-    settings: Settings,
-    f: Footing,
-    soil: Soil,
-    sensitive: bool,
-    a: Quotient,
-    minus: bool,
-) -> Row
-    requires operands { FootingRange settings f }
-    requires coefficient { fraction a ≡ footing_coefficient settings f }
-    ensures { result ≡ footing_row settings f soil sensitive minus }
-{
-    let n = action_down(a, f.nv, f.ne, minus);
-    let h = action_size(a, f.hv, f.he, minus);
-    if LEAST_NORMAL <= n {
-        let normal = n as u64;
-        let ex = eccentricity_up(a, f.xv, f.xe, minus, normal);
-        let ey = eccentricity_up(a, f.yv, f.ye, minus, normal);
-        heavy_row(settings, f, soil, sensitive, a, normal, ex, ey, h)
-    } else {
-        light_row(n, h)
     }
 }

@@ -2,19 +2,23 @@
 -- operands that stand there. Assumes nothing.
 use mathlib.Core.List.{List}
 use mathlib.Core.Bool.{true}
-use mathlib.Core.Path.{◌≡◌, refl, sym, ◌∙◌}
-use Prim.Native.Nat.{ℕ, ◌+◌, ◌<◌}
+use mathlib.Core.Path.{◌≡◌, refl, sym, ap, ◌∙◌}
+use Prim.Native.Nat.{ℕ, ◌+◌, ◌≤◌, ◌<◌}
+use native.Mathlib.Nat.{add-zero}
+use native.Mathlib.Omega.{arith}
 use lib.Dec.{lit<}
-use lib.ListN.{length}
-use Rattle.layout.specs.Layouts.{known, forms_of, forms_in}
-use Rattle.format.specs.Commands.{byte_of, operands_of, command_of}
-use Rattle.layout.specs.Operands.{operand, byte_at, operands_at}
+use lib.ListN.{length, take, drop}
+use Rattle.layout.specs.Layouts.{known, forms_of, forms_in, operands_width}
+use Rattle.walls.specs.declared.Storey.{Storey}
+use Rattle.format.specs.Commands.{Command, finish, storey, byte_of, operands_of, storey_of, command_of}
+use Rattle.layout.specs.Operands.{operand, byte_at, read_operands, operands_at}
 use Rattle.format.specs.Reading.{command_at}
 use Rattle.layout.proofs.KnownBytes.{each_byte, known_most}
 use Rattle.format.proofs.CommandBytes.{command_above}
 use Rattle.format.proofs.RoundTrip.{byte_back, operands_back}
 use Rattle.layout.proofs.Numbers.{Bytes}
-use Rattle.layout.proofs.OperandsRead.{at, operand_at, operands_length, operands_fit}
+use Rattle.layout.proofs.Widths.{widths}
+use Rattle.layout.proofs.OperandsRead.{at, operand_at, operand_within, read_length, read_below, operands_length, operands_fit}
 
 -- v and w agree at the operands of a command
 abbrev pub Same : ℕ → (ℕ → ℕ) → (ℕ → ℕ) → Type 0
@@ -75,3 +79,53 @@ module _ (job : List ℕ) (start : ℕ) where
   pub operands_read : Bytes job → operands_of (command_at job start) ≡ operands_at job start
   unfolding command_at
   operands_read b = operands_back (byte_at job start) (operands_at job start) (operands_length job start) (operands_fit job start b)
+
+-- ---- read from the bytes of its operands alone
+
+module _ (job : List ℕ) (offset byte : ℕ) (e : byte ≡ byte_at job offset) where
+  pub command_alone : command_of byte (operand byte (take (operands_width byte) (drop (offset + 1) job)) 0) ≡ command_at job offset
+  command_alone =
+      command_same byte (operand byte (take (operands_width byte) (drop (offset + 1) job)) 0) (operand byte job (offset + 1))
+      (λ i l. operand_within byte job (offset + 1) 0 (operands_width byte) i (omega arith) l ∙ ap (λ (at : ℕ). operand byte job at i) (add-zero (offset + 1)))
+      ∙ ap (λ (b : ℕ). command_of b (operand b job (offset + 1))) e
+      ∙ command_at_offset job offset
+
+-- the operands of a command that is made of them
+module _ (byte : ℕ) (bytes : List ℕ) (b : Bytes bytes) where
+  made : command_of byte (operand byte bytes 0) ≡ command_of byte (at (read_operands (forms_of byte) bytes))
+  made = command_same byte (operand byte bytes 0) (at (read_operands (forms_of byte) bytes)) (operand_at byte bytes 0)
+
+  pub operands_made : operands_of (command_of byte (operand byte bytes 0)) ≡ read_operands (forms_of byte) bytes
+  operands_made = rw made (operands_back byte (read_operands (forms_of byte) bytes) (read_length (forms_of byte) bytes) (read_below (forms_of byte) bytes b))
+
+-- ---- what the calls that read return
+
+module _ (job : List ℕ) (offset byte : ℕ) (e : byte ≡ byte_at job offset) where
+  pub read_alone : (b n : ℕ) {r : Command} → b ≡ byte → n ≡ operands_width byte → r ≡ command_of b (operand b (take n (drop (offset + 1) job)) 0) → r ≡ command_at job offset
+  read_alone b n eb en h =
+      h
+      ∙ ap (λ (b : ℕ). command_of b (operand b (take n (drop (offset + 1) job)) 0)) eb
+      ∙ ap (λ (n : ℕ). command_of byte (operand byte (take n (drop (offset + 1) job)) 0)) en
+      ∙ command_alone job offset byte e
+
+  pub none_read : 10 < byte → finish ≡ command_at job offset
+  none_read h =
+      sym (command_above byte (operand byte job (offset + 1)) h)
+      ∙ ap (λ (b : ℕ). command_of b (operand b job (offset + 1))) e
+      ∙ command_at_offset job offset
+
+-- the storey of a part of the bytes
+pub storey_within : (job : List ℕ) (from at w : ℕ) → at + 24 ≤ w → storey_of (operand 7 (take w (drop from job)) at) ≡ storey_of (operand 7 job (from + at))
+unfolding command_of
+storey_within job from at w h =
+    let room : at + operands_width 7 ≤ w = omega (arith, widths.storey) in
+    let same : storey (storey_of (operand 7 (take w (drop from job)) at)) ≡ storey (storey_of (operand 7 job (from + at))) =
+    command_same 7 (operand 7 (take w (drop from job)) at) (operand 7 job (from + at)) (λ i l. operand_within 7 job from at w i room l) in
+    cc
+
+pub storey_read : (job : List ℕ) (from n : ℕ) {s : Storey} → n ≡ 24 → storey s ≡ command_of 7 (operand 7 (take n (drop from job)) 0) → s ≡ storey_of (operand 7 job from)
+unfolding command_of
+storey_read job from n {s} e h =
+    let is : storey s ≡ storey (storey_of (operand 7 (take n (drop from job)) 0)) = h in
+    let only : s ≡ storey_of (operand 7 (take n (drop from job)) 0) = cc in
+    only ∙ storey_within job from 0 n (omega arith) ∙ ap (λ (at : ℕ). storey_of (operand 7 job at)) (add-zero from)

@@ -1,6 +1,6 @@
 -- The commands of a job, with named operands; their order in the file; the range test, which is a test of a command's values; and
 -- the operand at fault. 01, "Job commands". The type itself is the code's (src/lib.rt).
-use Rattle.std.specs.Prelude.{Bool, true, false, ◌&&◌, cond, List, [], ◌∷◌, ℕ, suc, eqb, leb, ltb, length}
+use Rattle.std.specs.Prelude.{Bool, true, false, ◌&&◌, cond, List, [], ◌∷◌, ℕ, suc, eqb, leb, ltb, length, Option, Some, None}
 use Rattle.soil.specs.Reading.{soil_allowed}
 use Rattle.coefficient.specs.declared.Settings.{Settings}
 use Rattle.members.specs.declared.Column.{Column}
@@ -146,7 +146,10 @@ first_outside [] vs = 0
 first_outside (f ∷ fs) [] = 0
 first_outside (f ∷ fs) (v ∷ vs) = cond (form_in_range f v) (suc (first_outside fs vs)) 0
 
--- the operand that a relation names, by the command's byte: J of a storey, the value of a soil
+-- the operand that the relation names where there is one, by the command's byte: J of a storey, the value of a soil
+unfoldable pub relation_operand : ℕ → Option ℕ
+relation_operand byte = cond (eqb byte 7) (Some 2) (cond (eqb byte 8) (Some 1) None)
+
 unfoldable pub relation_names : ℕ → ℕ
 relation_names byte = cond (eqb byte 7) 2 (cond (eqb byte 8) 1 0)
 

@@ -1,20 +1,25 @@
-// The commands of a job: one value with its operands, read at an offset; the range test of its values. 01, "Job commands".
+// The commands of a job: one value with its operands, read from their bytes; the range test of its values; the operand at fault.
+// 01, "Job commands".
 #![tactic(auto)]
 
 ghost use Rattle.std.specs.Prelude.{◌≡◌, ◌+◌, ◌≤◌, length};
 ghost use Rattle.soil.specs.Reading.{soil_allowed};
-ghost use Rattle.layout.specs.Layouts.{operands_width};
+ghost use Rattle.layout.specs.declared.Kind.{Kind};
+ghost use Rattle.layout.specs.declared.Kind.TheVariants as kind;
+ghost use Rattle.layout.specs.Layouts.{byte_of_kind, operands_width};
 ghost use Rattle.layout.specs.Operands.{operand, byte_at};
-ghost use Rattle.format.specs.Commands.{in_range, relation_names, settings_of, joint_of, column_of, beam_of, hingeless_of, wall_base_of, storey_of, soil_given_of, footing_of, detail_of};
+ghost use Rattle.format.specs.Commands.{Command, byte_of, settings, joint, column, beam, hingeless, wall_base, storey, soil, footing, detail, in_range, relation_operand, relation_names, command_of, operand_at_fault, storey_of};
 ghost use Rattle.format.specs.Reading.{command_at};
 
 use coefficient::Settings;
 use footing::Footing;
+use layout::Kind;
 use members::{Beam, Column, Detail, Hingeless, Joint};
-use quantity::{Factor, Force, Length, Moment};
+use quantity::{Factor, Force, Length, Moment, Quantity};
 use walls::{Storey, WallBase};
 
-// A soil as it is given: kind 0 granular, 1 cohesive; the 32 bits of the value; sensitive 0 or 1.
+// A soil as it is given: kind 0 granular, 1 cohesive; the 32 bits of the value; sensitive 0 or 1. Kept at 32 bits each, as a detail's
+// place and a footing's flags are: a narrower type would ask more of a caller of `write`, who may give any value.
 #[derive(Clone, Copy)]
 pub struct SoilGiven {
     pub kind: u32,
@@ -38,174 +43,7 @@ pub enum Command {
     Detail(Detail),
 }
 
-// ---- the commands from their operands, which start at an offset
-
-fn settings_at(job: &[u8], at: usize) -> Settings
-    requires { at + 6 ≤ length job.now }
-    ensures { result ≡ settings_of (operand 1 job.now at) }
-{
-    Settings {
-        behaviour: layout::two_from(job, at, 0),
-        joints: layout::two_from(job, at, 2),
-        foundations: layout::two_from(job, at, 4),
-    }
-}
-
-fn joint_at(job: &[u8], at: usize) -> Joint
-    requires { at + 13 ≤ length job.now }
-    ensures { result ≡ joint_of (operand 2 job.now at) }
-{
-    Joint {
-        beams: layout::four_from(job, at, 1),
-        columns: layout::four_from(job, at, 5),
-        seismic: layout::four_from(job, at, 9),
-    }
-}
-
-fn column_at(job: &[u8], at: usize) -> Column
-    requires { at + 28 ≤ length job.now }
-    ensures { result ≡ column_of (operand 3 job.now at) }
-{
-    Column {
-        length: layout::four_from(job, at, 0),
-        plus1: layout::four_from(job, at, 4),
-        plus2: layout::four_from(job, at, 8),
-        minus1: layout::four_from(job, at, 12),
-        minus2: layout::four_from(job, at, 16),
-        shear: layout::four_from(job, at, 20),
-        strength: layout::four_from(job, at, 24),
-    }
-}
-
-fn beam_at(job: &[u8], at: usize) -> Beam
-    requires { at + 32 ≤ length job.now }
-    ensures { result ≡ beam_of (operand 4 job.now at) }
-{
-    Beam {
-        length: layout::four_from(job, at, 0),
-        plus1: layout::four_from(job, at, 4),
-        plus2: layout::four_from(job, at, 8),
-        minus1: layout::four_from(job, at, 12),
-        minus2: layout::four_from(job, at, 16),
-        nonseismic: layout::signed_from(job, at, 20),
-        shear: layout::four_from(job, at, 24),
-        strength: layout::four_from(job, at, 28),
-    }
-}
-
-fn hingeless_at(job: &[u8], at: usize) -> Hingeless
-    requires { at + 22 ≤ length job.now }
-    ensures { result ≡ hingeless_of (operand 5 job.now at) }
-{
-    Hingeless {
-        length: layout::four_from(job, at, 0),
-        moment1: layout::four_from(job, at, 6),
-        moment2: layout::four_from(job, at, 10),
-        nonseismic: layout::signed_from(job, at, 14),
-        strength: layout::four_from(job, at, 18),
-    }
-}
-
-fn wall_base_at(job: &[u8], at: usize) -> WallBase
-    requires { at + 24 ≤ length job.now }
-    ensures { result ≡ wall_base_of (operand 6 job.now at) }
-{
-    WallBase {
-        length: layout::four_from(job, at, 0),
-        thickness: layout::four_from(job, at, 4),
-        resistance: layout::four_from(job, at, 8),
-        moment: layout::four_from(job, at, 12),
-        shear: layout::four_from(job, at, 16),
-        strength: layout::four_from(job, at, 20),
-    }
-}
-
-pub fn storey_at(job: &[u8], at: usize) -> Storey
-    requires { at + 24 ≤ length job.now }
-    ensures { result ≡ storey_of (operand 7 job.now at) }
-{
-    Storey {
-        moment: layout::four_from(job, at, 0),
-        shear: layout::four_from(job, at, 4),
-        inertia: layout::four_from(job, at, 8),
-        base_inertia: layout::four_from(job, at, 12),
-        strength: layout::four_from(job, at, 16),
-        resistance: layout::four_from(job, at, 20),
-    }
-}
-
-fn soil_at(job: &[u8], at: usize) -> SoilGiven
-    requires { at + 6 ≤ length job.now }
-    ensures { result ≡ soil_given_of (operand 8 job.now at) }
-{
-    SoilGiven {
-        kind: layout::byte_from(job, at, 0),
-        value: layout::four_from(job, at, 1),
-        sensitive: layout::byte_from(job, at, 5),
-    }
-}
-
-fn footing_at(job: &[u8], at: usize) -> Footing
-    requires { at + 57 ≤ length job.now }
-    ensures { result ≡ footing_of (operand 9 job.now at) }
-{
-    Footing {
-        breadth: layout::four_from(job, at, 0),
-        length: layout::four_from(job, at, 4),
-        resistance: layout::four_from(job, at, 8),
-        moment: layout::four_from(job, at, 12),
-        nv: layout::signed_from(job, at, 16),
-        ne: layout::signed_from(job, at, 20),
-        xv: layout::signed_from(job, at, 24),
-        xe: layout::signed_from(job, at, 28),
-        yv: layout::signed_from(job, at, 32),
-        ye: layout::signed_from(job, at, 36),
-        hv: layout::signed_from(job, at, 40),
-        he: layout::signed_from(job, at, 44),
-        uplift: layout::four_from(job, at, 48),
-        passive: layout::four_from(job, at, 52),
-        flags: layout::byte_from(job, at, 56),
-    }
-}
-
-fn detail_at(job: &[u8], at: usize) -> Detail
-    requires { at + 8 ≤ length job.now }
-    ensures { result ≡ detail_of (operand 10 job.now at) }
-{
-    Detail {
-        place: layout::byte_from(job, at, 0),
-        ultimate: layout::two_from(job, at, 1),
-        yielded: layout::two_from(job, at, 3),
-        ductility: layout::two_from(job, at, 5),
-        lap: layout::byte_from(job, at, 7),
-    }
-}
-
-// The command at an offset of a job, by its byte.
-pub fn read(job: &[u8], offset: usize, command: u8) -> Command
-    requires byte { command ≡ byte_at job.now offset }
-    requires whole { offset + 1 + operands_width command ≤ length job.now }
-    ensures { result ≡ command_at job.now offset }
-{
-    let at = offset + 1;
-    match command {
-        1 => Command::Settings(settings_at(job, at)),
-        2 => Command::Joint(layout::id_from(job, at, 0), joint_at(job, at)),
-        3 => Command::Column(column_at(job, at)),
-        4 => Command::Beam(beam_at(job, at)),
-        5 => Command::Hingeless(
-            layout::id_from(job, at, 4),
-            layout::id_from(job, at, 5),
-            hingeless_at(job, at),
-        ),
-        6 => Command::WallBase(wall_base_at(job, at)),
-        7 => Command::Storey(storey_at(job, at)),
-        8 => Command::Soil(soil_at(job, at)),
-        9 => Command::Footing(footing_at(job, at)),
-        10 => Command::Detail(detail_at(job, at)),
-        _ => Command::Finish,
-    }
-}
+// ---- the values of each command
 
 // Whether a soil's kind and value are those of a soil; a kind above 255 is none.
 fn soil_related(kind: u32, bits: u32) -> bool
@@ -217,151 +55,440 @@ fn soil_related(kind: u32, bits: u32) -> bool
     soil::in_range(kind as u8, bits)
 }
 
-// ---- the range test of a command's values
+// The values of one kind of command.
+pub trait Operands: Copy {
+    // The command of these values.
+    ghost command: { Self → Command };
 
-pub fn settings_in_range(s: Settings) -> bool
-    ensures { result ≡ in_range (Command.Settings s) }
-{
-    Factor::behaviour_in_range(s.behaviour)
-        & Factor::overstrength_in_range(s.joints)
-        & Factor::overstrength_in_range(s.foundations)
+    ghost KIND: { Kind };
+
+    const KIND: Kind;
+
+    // Read from the bytes behind the command's own.
+    fn read(operands: &[u8]) -> Self
+        requires { length operands.now ≡ operands_width (byte_of_kind KIND) }
+        ensures { command result ≡ command_of (byte_of_kind KIND) (operand (byte_of_kind KIND) operands.now 0) };
+
+    // Whether every operand is in its range, and the relation between them holds.
+    fn in_range(self) -> bool
+        ensures { result ≡ in_range (command self) };
 }
 
-pub fn joint_in_range(j: Joint) -> bool
-    ensures { result ≡ in_range (Command.Joint 0 j) }
-{
-    Moment::in_range(j.beams) & Moment::in_range(j.columns) & Moment::in_range(j.seismic)
-}
+impl Operands for Settings {
+    ghost command = { λ x. settings x };
 
-pub fn column_in_range(c: Column) -> bool
-    ensures { result ≡ in_range (Command.Column c) }
-{
-    Length::member_in_range(c.length)
-        & Moment::in_range(c.plus1)
-        & Moment::in_range(c.plus2)
-        & Moment::in_range(c.minus1)
-        & Moment::in_range(c.minus2)
-        & Force::in_range(c.shear)
-        & Force::in_range(c.strength)
-}
+    ghost KIND = { kind.Settings };
 
-pub fn beam_in_range(b: Beam) -> bool
-    ensures { result ≡ in_range (Command.Beam b) }
-{
-    Length::member_in_range(b.length)
-        & Moment::in_range(b.plus1)
-        & Moment::in_range(b.plus2)
-        & Moment::in_range(b.minus1)
-        & Moment::in_range(b.minus2)
-        & Force::signed_in_range(b.nonseismic)
-        & Force::in_range(b.shear)
-        & Force::in_range(b.strength)
-}
+    const KIND: Kind = Kind::Settings;
 
-pub fn hingeless_in_range(m: Hingeless) -> bool
-    ensures { result ≡ in_range (Command.Hingeless 0 0 m) }
-{
-    Length::member_in_range(m.length)
-        & Moment::in_range(m.moment1)
-        & Moment::in_range(m.moment2)
-        & Force::signed_in_range(m.nonseismic)
-        & Force::in_range(m.strength)
-}
+    #[tactic(auto, unfolding(layout::specs::Layouts::operands_width, layout::specs::Layouts::width_of_all, layout::specs::Layouts::forms_of, layout::specs::Layouts::forms_in, layout::specs::Forms::width))]
+    fn read(operands: &[u8]) -> Settings {
+        Settings {
+            behaviour: layout::unsigned(&operands[0..2]),
+            joints: layout::unsigned(&operands[2..4]),
+            foundations: layout::unsigned(&operands[4..6]),
+        }
+    }
 
-pub fn wall_base_in_range(b: WallBase) -> bool
-    ensures { result ≡ in_range (Command.WallBase b) }
-{
-    Length::wall_in_range(b.length)
-        & Length::wall_in_range(b.thickness)
-        & Moment::in_range(b.resistance)
-        & Moment::in_range(b.moment)
-        & Force::in_range(b.shear)
-        & Force::in_range(b.strength)
-}
-
-pub fn storey_in_range(s: Storey) -> bool
-    ensures { result ≡ in_range (Command.Storey s) }
-{
-    Moment::in_range(s.moment)
-        & Force::in_range(s.shear)
-        & quantity::between(s.inertia, layout::LEAST_INERTIA, layout::GREATEST_INERTIA)
-        & quantity::between(
-            s.base_inertia,
-            layout::LEAST_INERTIA,
-            layout::GREATEST_INERTIA,
-        )
-        & Force::in_range(s.strength)
-        & Moment::in_range(s.resistance)
-        & (s.inertia <= s.base_inertia)
-}
-
-pub fn soil_in_range(s: SoilGiven) -> bool
-    ensures { result ≡ in_range (Command.Soil s) }
-{
-    quantity::between(s.kind, 0, layout::GREATEST_KIND)
-        & quantity::between(s.sensitive, 0, layout::YES)
-        & soil_related(s.kind, s.value)
-}
-
-pub fn footing_in_range(f: Footing) -> bool
-    ensures { result ≡ in_range (Command.Footing f) }
-{
-    Length::side_in_range(f.breadth)
-        & Length::side_in_range(f.length)
-        & Moment::in_range(f.resistance)
-        & Moment::in_range(f.moment)
-        & Force::signed_in_range(f.nv)
-        & Force::signed_in_range(f.ne)
-        & Moment::signed_in_range(f.xv)
-        & Moment::signed_in_range(f.xe)
-        & Moment::signed_in_range(f.yv)
-        & Moment::signed_in_range(f.ye)
-        & Force::signed_in_range(f.hv)
-        & Force::signed_in_range(f.he)
-        & Force::in_range(f.uplift)
-        & Force::in_range(f.passive)
-        & quantity::between(f.flags, 0, layout::GREATEST_FLAGS)
-}
-
-pub fn detail_in_range(d: Detail) -> bool
-    ensures { result ≡ in_range (Command.Detail d) }
-{
-    quantity::between(d.place, 0, layout::GREATEST_PLACE)
-        & quantity::between(d.ultimate, 0, layout::GREATEST_DEPTH)
-        & quantity::between(d.yielded, 0, layout::GREATEST_DEPTH)
-        & quantity::between(
-            d.ductility,
-            layout::LEAST_DUCTILITY,
-            layout::GREATEST_DUCTILITY,
-        )
-        & quantity::between(d.lap, 0, layout::YES)
-}
-
-// Whether every operand of a command is in its range, and the relation between them holds.
-pub fn command_in_range(command: Command) -> bool
-    ensures { result ≡ in_range command }
-{
-    match command {
-        Command::Finish => true,
-        Command::Settings(s) => settings_in_range(s),
-        Command::Joint(_, j) => joint_in_range(j),
-        Command::Column(c) => column_in_range(c),
-        Command::Beam(b) => beam_in_range(b),
-        Command::Hingeless(_, _, m) => hingeless_in_range(m),
-        Command::WallBase(b) => wall_base_in_range(b),
-        Command::Storey(s) => storey_in_range(s),
-        Command::Soil(s) => soil_in_range(s),
-        Command::Footing(f) => footing_in_range(f),
-        Command::Detail(d) => detail_in_range(d),
+    fn in_range(self) -> bool {
+        Factor::behaviour_in_range(self.behaviour)
+            & Factor::overstrength_in_range(self.joints)
+            & Factor::overstrength_in_range(self.foundations)
     }
 }
 
-// The operand that the relation between a command's operands names, by the command's byte: J of a storey, the value of a soil.
-pub fn relation_names(command: u8) -> u32
-    ensures { result ≡ relation_names command }
-{
-    if command == 7 {
-        return 2;
+impl Operands for (u8, Joint) {
+    ghost command = { λ x. joint x.0 x.1 };
+
+    ghost KIND = { kind.Joint };
+
+    const KIND: Kind = Kind::Joint;
+
+    #[tactic(auto, unfolding(layout::specs::Layouts::operands_width, layout::specs::Layouts::width_of_all, layout::specs::Layouts::forms_of, layout::specs::Layouts::forms_in, layout::specs::Forms::width))]
+    fn read(operands: &[u8]) -> (u8, Joint) {
+        (
+            operands[0],
+            Joint {
+                beams: layout::unsigned(&operands[1..5]),
+                columns: layout::unsigned(&operands[5..9]),
+                seismic: layout::unsigned(&operands[9..13]),
+            },
+        )
     }
-    if command == 8 { 1 } else { 0 }
+
+    fn in_range(self) -> bool {
+        let (_, joint) = self;
+        Moment::in_range(joint.beams)
+            & Moment::in_range(joint.columns)
+            & Moment::in_range(joint.seismic)
+    }
+}
+
+impl Operands for Column {
+    ghost command = { λ x. column x };
+
+    ghost KIND = { kind.Column };
+
+    const KIND: Kind = Kind::Column;
+
+    #[tactic(auto, unfolding(layout::specs::Layouts::operands_width, layout::specs::Layouts::width_of_all, layout::specs::Layouts::forms_of, layout::specs::Layouts::forms_in, layout::specs::Forms::width))]
+    fn read(operands: &[u8]) -> Column {
+        Column {
+            length: layout::unsigned(&operands[0..4]),
+            plus1: layout::unsigned(&operands[4..8]),
+            plus2: layout::unsigned(&operands[8..12]),
+            minus1: layout::unsigned(&operands[12..16]),
+            minus2: layout::unsigned(&operands[16..20]),
+            shear: layout::unsigned(&operands[20..24]),
+            strength: layout::unsigned(&operands[24..28]),
+        }
+    }
+
+    fn in_range(self) -> bool {
+        Length::member_in_range(self.length)
+            & Moment::in_range(self.plus1)
+            & Moment::in_range(self.plus2)
+            & Moment::in_range(self.minus1)
+            & Moment::in_range(self.minus2)
+            & Force::in_range(self.shear)
+            & Force::in_range(self.strength)
+    }
+}
+
+impl Operands for Beam {
+    ghost command = { λ x. beam x };
+
+    ghost KIND = { kind.Beam };
+
+    const KIND: Kind = Kind::Beam;
+
+    #[tactic(auto, unfolding(layout::specs::Layouts::operands_width, layout::specs::Layouts::width_of_all, layout::specs::Layouts::forms_of, layout::specs::Layouts::forms_in, layout::specs::Forms::width))]
+    fn read(operands: &[u8]) -> Beam {
+        Beam {
+            length: layout::unsigned(&operands[0..4]),
+            plus1: layout::unsigned(&operands[4..8]),
+            plus2: layout::unsigned(&operands[8..12]),
+            minus1: layout::unsigned(&operands[12..16]),
+            minus2: layout::unsigned(&operands[16..20]),
+            nonseismic: layout::signed(&operands[20..24]),
+            shear: layout::unsigned(&operands[24..28]),
+            strength: layout::unsigned(&operands[28..32]),
+        }
+    }
+
+    fn in_range(self) -> bool {
+        Length::member_in_range(self.length)
+            & Moment::in_range(self.plus1)
+            & Moment::in_range(self.plus2)
+            & Moment::in_range(self.minus1)
+            & Moment::in_range(self.minus2)
+            & Force::signed_in_range(self.nonseismic)
+            & Force::in_range(self.shear)
+            & Force::in_range(self.strength)
+    }
+}
+
+impl Operands for (u8, u8, Hingeless) {
+    ghost command = { λ x. hingeless x.0 x.1 x.2 };
+
+    ghost KIND = { kind.Hingeless };
+
+    const KIND: Kind = Kind::Hingeless;
+
+    #[tactic(auto, unfolding(layout::specs::Layouts::operands_width, layout::specs::Layouts::width_of_all, layout::specs::Layouts::forms_of, layout::specs::Layouts::forms_in, layout::specs::Forms::width))]
+    fn read(operands: &[u8]) -> (u8, u8, Hingeless) {
+        (
+            operands[4],
+            operands[5],
+            Hingeless {
+                length: layout::unsigned(&operands[0..4]),
+                moment1: layout::unsigned(&operands[6..10]),
+                moment2: layout::unsigned(&operands[10..14]),
+                nonseismic: layout::signed(&operands[14..18]),
+                strength: layout::unsigned(&operands[18..22]),
+            },
+        )
+    }
+
+    fn in_range(self) -> bool {
+        let (_, _, member) = self;
+        Length::member_in_range(member.length)
+            & Moment::in_range(member.moment1)
+            & Moment::in_range(member.moment2)
+            & Force::signed_in_range(member.nonseismic)
+            & Force::in_range(member.strength)
+    }
+}
+
+impl Operands for WallBase {
+    ghost command = { λ x. wall_base x };
+
+    ghost KIND = { kind.WallBase };
+
+    const KIND: Kind = Kind::WallBase;
+
+    #[tactic(auto, unfolding(layout::specs::Layouts::operands_width, layout::specs::Layouts::width_of_all, layout::specs::Layouts::forms_of, layout::specs::Layouts::forms_in, layout::specs::Forms::width))]
+    fn read(operands: &[u8]) -> WallBase {
+        WallBase {
+            length: layout::unsigned(&operands[0..4]),
+            thickness: layout::unsigned(&operands[4..8]),
+            resistance: layout::unsigned(&operands[8..12]),
+            moment: layout::unsigned(&operands[12..16]),
+            shear: layout::unsigned(&operands[16..20]),
+            strength: layout::unsigned(&operands[20..24]),
+        }
+    }
+
+    fn in_range(self) -> bool {
+        Length::wall_in_range(self.length)
+            & Length::wall_in_range(self.thickness)
+            & Moment::in_range(self.resistance)
+            & Moment::in_range(self.moment)
+            & Force::in_range(self.shear)
+            & Force::in_range(self.strength)
+    }
+}
+
+impl Operands for Storey {
+    ghost command = { λ x. storey x };
+
+    ghost KIND = { kind.Storey };
+
+    const KIND: Kind = Kind::Storey;
+
+    #[tactic(auto, unfolding(layout::specs::Layouts::operands_width, layout::specs::Layouts::width_of_all, layout::specs::Layouts::forms_of, layout::specs::Layouts::forms_in, layout::specs::Forms::width))]
+    fn read(operands: &[u8]) -> Storey {
+        Storey {
+            moment: layout::unsigned(&operands[0..4]),
+            shear: layout::unsigned(&operands[4..8]),
+            inertia: layout::unsigned(&operands[8..12]),
+            base_inertia: layout::unsigned(&operands[12..16]),
+            strength: layout::unsigned(&operands[16..20]),
+            resistance: layout::unsigned(&operands[20..24]),
+        }
+    }
+
+    fn in_range(self) -> bool {
+        Moment::in_range(self.moment)
+            & Force::in_range(self.shear)
+            & quantity::between(
+                self.inertia,
+                layout::LEAST_INERTIA,
+                layout::GREATEST_INERTIA,
+            )
+            & quantity::between(
+                self.base_inertia,
+                layout::LEAST_INERTIA,
+                layout::GREATEST_INERTIA,
+            )
+            & Force::in_range(self.strength)
+            & Moment::in_range(self.resistance)
+            & (self.inertia <= self.base_inertia)
+    }
+}
+
+impl Operands for SoilGiven {
+    ghost command = { λ x. soil x };
+
+    ghost KIND = { kind.Soil };
+
+    const KIND: Kind = Kind::Soil;
+
+    #[tactic(auto, unfolding(layout::specs::Layouts::operands_width, layout::specs::Layouts::width_of_all, layout::specs::Layouts::forms_of, layout::specs::Layouts::forms_in, layout::specs::Forms::width))]
+    fn read(operands: &[u8]) -> SoilGiven {
+        SoilGiven {
+            kind: layout::unsigned(&operands[0..1]),
+            value: layout::unsigned(&operands[1..5]),
+            sensitive: layout::unsigned(&operands[5..6]),
+        }
+    }
+
+    fn in_range(self) -> bool {
+        quantity::between(self.kind, 0, layout::GREATEST_KIND)
+            & quantity::between(self.sensitive, 0, layout::YES)
+            & soil_related(self.kind, self.value)
+    }
+}
+
+impl Operands for Footing {
+    ghost command = { λ x. footing x };
+
+    ghost KIND = { kind.Footing };
+
+    const KIND: Kind = Kind::Footing;
+
+    #[tactic(auto, unfolding(layout::specs::Layouts::operands_width, layout::specs::Layouts::width_of_all, layout::specs::Layouts::forms_of, layout::specs::Layouts::forms_in, layout::specs::Forms::width))]
+    fn read(operands: &[u8]) -> Footing {
+        Footing {
+            breadth: layout::unsigned(&operands[0..4]),
+            length: layout::unsigned(&operands[4..8]),
+            resistance: layout::unsigned(&operands[8..12]),
+            moment: layout::unsigned(&operands[12..16]),
+            nv: layout::signed(&operands[16..20]),
+            ne: layout::signed(&operands[20..24]),
+            xv: layout::signed(&operands[24..28]),
+            xe: layout::signed(&operands[28..32]),
+            yv: layout::signed(&operands[32..36]),
+            ye: layout::signed(&operands[36..40]),
+            hv: layout::signed(&operands[40..44]),
+            he: layout::signed(&operands[44..48]),
+            uplift: layout::unsigned(&operands[48..52]),
+            passive: layout::unsigned(&operands[52..56]),
+            flags: layout::unsigned(&operands[56..57]),
+        }
+    }
+
+    fn in_range(self) -> bool {
+        Length::side_in_range(self.breadth)
+            & Length::side_in_range(self.length)
+            & Moment::in_range(self.resistance)
+            & Moment::in_range(self.moment)
+            & Force::signed_in_range(self.nv)
+            & Force::signed_in_range(self.ne)
+            & Moment::signed_in_range(self.xv)
+            & Moment::signed_in_range(self.xe)
+            & Moment::signed_in_range(self.yv)
+            & Moment::signed_in_range(self.ye)
+            & Force::signed_in_range(self.hv)
+            & Force::signed_in_range(self.he)
+            & Force::in_range(self.uplift)
+            & Force::in_range(self.passive)
+            & quantity::between(self.flags, 0, layout::GREATEST_FLAGS)
+    }
+}
+
+impl Operands for Detail {
+    ghost command = { λ x. detail x };
+
+    ghost KIND = { kind.Detail };
+
+    const KIND: Kind = Kind::Detail;
+
+    #[tactic(auto, unfolding(layout::specs::Layouts::operands_width, layout::specs::Layouts::width_of_all, layout::specs::Layouts::forms_of, layout::specs::Layouts::forms_in, layout::specs::Forms::width))]
+    fn read(operands: &[u8]) -> Detail {
+        Detail {
+            place: layout::unsigned(&operands[0..1]),
+            ultimate: layout::unsigned(&operands[1..3]),
+            yielded: layout::unsigned(&operands[3..5]),
+            ductility: layout::unsigned(&operands[5..7]),
+            lap: layout::unsigned(&operands[7..8]),
+        }
+    }
+
+    fn in_range(self) -> bool {
+        quantity::between(self.place, 0, layout::GREATEST_PLACE)
+            & quantity::between(self.ultimate, 0, layout::GREATEST_DEPTH)
+            & quantity::between(self.yielded, 0, layout::GREATEST_DEPTH)
+            & quantity::between(
+                self.ductility,
+                layout::LEAST_DUCTILITY,
+                layout::GREATEST_DUCTILITY,
+            )
+            & quantity::between(self.lap, 0, layout::YES)
+    }
+}
+
+// ---- a command
+
+impl Command {
+    // The command of a kind, from its operands.
+    pub fn read(kind: Kind, operands: &[u8]) -> Command
+        requires { length operands.now ≡ operands_width (byte_of_kind kind) }
+        ensures { result ≡ command_of (byte_of_kind kind) (operand (byte_of_kind kind) operands.now 0) }
+    {
+        match kind {
+            Kind::Finish => Command::Finish,
+            Kind::Settings => Command::Settings(Settings::read(operands)),
+            Kind::Joint => {
+                let (id, joint) = <(u8, Joint)>::read(operands);
+                Command::Joint(id, joint)
+            }
+            Kind::Column => Command::Column(Column::read(operands)),
+            Kind::Beam => Command::Beam(Beam::read(operands)),
+            Kind::Hingeless => {
+                let (id1, id2, member) = <(u8, u8, Hingeless)>::read(operands);
+                Command::Hingeless(id1, id2, member)
+            }
+            Kind::WallBase => Command::WallBase(WallBase::read(operands)),
+            Kind::Storey => Command::Storey(Storey::read(operands)),
+            Kind::Soil => Command::Soil(SoilGiven::read(operands)),
+            Kind::Footing => Command::Footing(Footing::read(operands)),
+            Kind::Detail => Command::Detail(Detail::read(operands)),
+        }
+    }
+
+    // Its kind.
+    pub fn kind(self) -> Kind
+        ensures { byte_of_kind result ≡ byte_of self }
+    {
+        match self {
+            Command::Finish => Kind::Finish,
+            Command::Settings(_) => Kind::Settings,
+            Command::Joint(_, _) => Kind::Joint,
+            Command::Column(_) => Kind::Column,
+            Command::Beam(_) => Kind::Beam,
+            Command::Hingeless(_, _, _) => Kind::Hingeless,
+            Command::WallBase(_) => Kind::WallBase,
+            Command::Storey(_) => Kind::Storey,
+            Command::Soil(_) => Kind::Soil,
+            Command::Footing(_) => Kind::Footing,
+            Command::Detail(_) => Kind::Detail,
+        }
+    }
+
+    // Whether every operand of a command is in its range, and the relation between them holds.
+    pub fn in_range(self) -> bool
+        ensures { result ≡ in_range self }
+    {
+        match self {
+            Command::Finish => true,
+            Command::Settings(s) => s.in_range(),
+            Command::Joint(id, j) => (id, j).in_range(),
+            Command::Column(c) => c.in_range(),
+            Command::Beam(b) => b.in_range(),
+            Command::Hingeless(id1, id2, m) => (id1, id2, m).in_range(),
+            Command::WallBase(b) => b.in_range(),
+            Command::Storey(s) => s.in_range(),
+            Command::Soil(s) => s.in_range(),
+            Command::Footing(f) => f.in_range(),
+            Command::Detail(d) => d.in_range(),
+        }
+    }
+}
+
+// The operand that the relation between a command's operands names: J of a storey, the value of a soil.
+fn relation_operand(kind: Kind) -> Option<u32>
+    ensures { result ≡ relation_operand (byte_of_kind kind) }
+{
+    match kind {
+        Kind::Storey => Some(2),
+        Kind::Soil => Some(1),
+        _ => None,
+    }
+}
+
+// The operand at fault of a command that is out of range, counted from 0, among its operands.
+pub fn operand_at_fault(kind: Kind, operands: &[u8]) -> u32
+    requires { length operands.now ≡ operands_width (byte_of_kind kind) }
+    ensures { result ≡ operand_at_fault (command_of (byte_of_kind kind) (operand (byte_of_kind kind) operands.now 0)) }
+{
+    let mut at = 0;
+    for (place, form) in kind.forms().iter().enumerate() {
+        let width = form.width();
+        if !form.in_range(layout::unsigned_of_any(&operands[at..at + width])) {
+            return place as u32;
+        }
+        at += width;
+    }
+    relation_operand(kind).unwrap_or(0)
+}
+
+// ---- by an offset of a job
+
+// The storey whose operands start at an offset.
+pub fn storey_at(job: &[u8], at: usize) -> Storey
+    requires { at + 24 ≤ length job.now }
+    ensures { result ≡ storey_of (operand 7 job.now at) }
+{
+    Storey::read(&job[at..at + 24])
 }

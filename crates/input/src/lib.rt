@@ -17,7 +17,8 @@ fn read_some<R: Read>(reader: &mut R, buffer: &mut [u8]) -> io::Result<usize>
     reader.read(buffer)
 }
 
-// Reads to the end of the input, or until the buffer is full: then there may be more.
+// Reads to the end of the input, or until the buffer is full: then there may be more. The loop is by hand, as the library's `read_to_end`
+// needs a heap.
 pub fn read_all<R: Read>(reader: &mut R, buffer: &mut [u8]) -> io::Result<usize>
     ensures bound { bytes_read result ≤ length buffer.new }
     ensures bytes { IfOk result (λ n. Consumes (R.remaining reader.old) (R.remaining reader.new) (take n buffer.new)) }

@@ -4,7 +4,7 @@
 use mathlib.Core.Path.{◌≡◌, refl, ap, ◌∙◌}
 use mathlib.Core.Bool.{Bool, true, false}
 use mathlib.Core.List.{List, [], ◌∷◌, ◌++◌}
-use mathlib.Core.Option.{Option, none, some}
+use Rattle.std.specs.Prelude.{Option, None, Some}
 use Prim.Native.Nat.{ℕ, zero, suc, ◌+◌}
 use Rattle.members.specs.declared.Joint.{Joint}
 use Rattle.format.specs.Reading.{command_at}
@@ -43,8 +43,8 @@ module _ (more fewer : Tests) (s : Stricter more fewer) (job : List ℕ) where
 
 -- 7: joint id given twice
 abbrev pub given_twice : Context → Option (ℕ × Joint) → Bool
-given_twice h none = false
-given_twice h (some (id, j)) = given (h.joints id)
+given_twice h None = false
+given_twice h (Some (id, j)) = given (h.joints id)
 
 -- tests with that for 7 behind them
 abbrev pub with7 : Tests → Tests

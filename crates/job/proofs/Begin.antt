@@ -1,85 +1,76 @@
--- The walk from the start of a job: nothing is given, no joint is in the table; its answer is that of the placed commands.
+-- The walk from the start of a job: nothing is given, no joint is in the table; it ends as the placed commands say.
 -- Assumes nothing.
 use mathlib.Core.Path.{◌≡◌, refl, sym, ap, ◌∙◌, subst}
-use mathlib.Core.Bool.{Bool, true, false}
-use mathlib.Core.List.{List, []}
-use Prim.Native.Nat.{ℕ, zero, suc, ◌≤◌}
+use mathlib.Core.Bool.{Bool}
+use mathlib.Core.List.{List}
+use Prim.Native.Nat.{ℕ, zero, suc}
 use native.Mathlib.Omega.{arith}
-use lib.Dec.{lit≤}
 use lib.IntN.{ℤ}
-use lib.ListN.{length, get_or, replicate, length-replicate}
+use lib.ListN.{length, replicate, length-replicate}
+use Rattle.std.specs.Prelude.{Option, None}
+use Rattle.members.specs.declared.Joint.{Joint}
+use Rattle.layout.specs.Operands.{byte_at}
 use Rattle.layout.proofs.Numbers.{Bytes}
 use Rattle.context.specs.Context.{nothing}
-use Rattle.context.specs.Running.{room_for, start_state, joint_given, SoundSums}
+use Rattle.context.specs.Running.{room_for, joint_at, start_state}
 use Rattle.context.proofs.Laws.{start_sound}
 use Rattle.context.proofs.Shown.{Shows}
-use Rattle.job.specs.Placed.{Listing, refused, accepted, listed, placed_of, placed}
-use Rattle.job.specs.Answers.{rows_answer, size_from, size_of, fault_in, fault_of}
-use Rattle.job.specs.Walking.{Final, first_place, no_joints, walk_from, WalkAsks, walked_answer, walked_fault}
+use Rattle.job.specs.Placed.{Job, Listing, refused, accepted, listed, placed_all, placed_of, placed}
+use Rattle.job.specs.Answers.{rows_answer, refused_answer, no_fault, size_from, size_of, fault_in, fault_of}
+use Rattle.job.specs.Walking.{WalkAnswer, Refused, Finished, Paused, Final, first_place, no_joints, walk_from, WalkAsks}
 use Rattle.job.proofs.OneCommand.{Going}
 use Rattle.job.proofs.Simulation.{Matches, simulates}
 
-zeros : (n k : ℕ) → ◌≡◌ {A = ℕ} (get_or (replicate n 0) k 0) 0
-zeros zero k = refl
-zeros (suc n) zero = refl
-zeros (suc n) (suc k) = zeros n k
+none_there : (n id : ℕ) → joint_at (replicate n None) id ≡ None
+none_there zero id = refl
+none_there (suc n) zero = refl
+none_there (suc n) (suc id) = none_there n id
 
--- the sums where rows are to be written, and where not
-pub zero_sums : (room : Bool) → SoundSums room (replicate 768 0)
-zero_sums room = record { size = λ r. length-replicate {A = ℕ} 768 0; entries = λ i. subst (λ (x : ℕ). x ≤ 100000000) (sym (zeros 768 i)) (lit≤ tt) }
+pub begin_asks : (job : List ℕ) → WalkAsks job first_place no_joints
+unfolding first_place
+begin_asks job =
+    record { state = start_sound; joints = λ id. rw (none_there 256 id) tt; offset = omega arith; count = omega arith; rows = omega arith }
 
-pub no_sums : SoundSums false []
-no_sums = record { size = λ r. absurd (differ r); entries = λ i. lit≤ tt }
-  where
-    differ : false ≡ true → ⊥
-    differ e = let z : ◌≡◌ {A = ℕ} 0 1 = cc in omega arith
-
-module _ (room : Bool) (sums : List ℕ) (s : SoundSums room sums) where
-  pub begin_shows : Shows room start_state (no_joints sums) nothing
+module _ (room : Bool) where
+  pub begin_shows : Shows room start_state no_joints nothing
   unfolding start_state
   begin_shows =
-      record {
-        size = length-replicate {A = ℕ} 256 0;
-        sums = s.size;
-        settings = refl;
-        flags = λ id h. sym (unset id);
-        joints = λ r id h. rw (unset id);
-        walled = refl;
-        wall = λ r. refl;
-        ground = refl;
-        ordered = λ e. e;
-      }
-    where
-      unset : (id : ℕ) → joint_given (replicate 256 0) id ≡ false
-      unset id = rw (zeros 256 id)
+      record { state = refl; size = length-replicate {A = Option Joint} 256 None; joints = λ id h. sym (none_there 256 id); ordered = λ e. refl }
 
-  pub begin_asks : (job : List ℕ) → WalkAsks job first_place (no_joints sums) room
-  unfolding first_place
-  begin_asks job =
-      record { state = start_sound; given = length-replicate {A = ℕ} 256 0; sums = s; offset = omega arith; count = omega arith; rows = omega arith }
-
-  pub begin_going : (job : List ℕ) (memory : List ℤ) → Bytes job → room_for (length memory) ≡ room → Going room 4097 job first_place (no_joints sums) memory nothing
+  pub begin_going : (job : List ℕ) (memory : List ℤ) → Bytes job → room_for (length memory) ≡ room → Going room 4097 job first_place no_joints memory nothing
   unfolding first_place
   begin_going job memory b r = record { bytes = b; shows = begin_shows; room_is = r; left = omega arith; count = omega arith; offset = omega arith }
 
-  pub begin_matches : (job : List ℕ) (memory : List ℤ) → Bytes job → room_for (length memory) ≡ room → Matches job (listed job) (walk_from room 4097 job first_place (no_joints sums) memory) 0 memory
+  pub begin_matches : (job : List ℕ) (memory : List ℤ) → Bytes job → room_for (length memory) ≡ room → Matches job (listed job) (walk_from room 4097 job first_place no_joints memory) 0 memory
   unfolding first_place listed
   begin_matches job memory b r =
-      simulates room 4097 job first_place (no_joints sums) memory nothing (begin_going job memory b r)
+      simulates room 4097 job first_place no_joints memory nothing (begin_going job memory b r)
 
-size_of_lem : (job : List ℕ) (j : Listing) (f : Final) (memory : List ℤ) → Matches job j f 0 memory → walked_answer f.answer ≡ size_from (placed_of j)
-size_of_lem job (refused number offset) f memory m = ap walked_answer m
-size_of_lem job (accepted es) f memory m = ap walked_answer m.0 ∙ ap rows_answer (omega arith)
+-- ---- how a walk from the start ends: as the placed commands say, and never paused
 
-fault_of_lem : (job : List ℕ) (j : Listing) (f : Final) (memory : List ℤ) → Matches job j f 0 memory → walked_fault job f.answer ≡ fault_in job (placed_of j)
-fault_of_lem job (refused number offset) f memory m = ap (walked_fault job) m
-fault_of_lem job (accepted es) f memory m = ap (walked_fault job) m.0
+abbrev EndedAs : List ℕ → Job → WalkAnswer → Type 0
+EndedAs job j (Refused number offset operand) =
+    (refused_answer number offset ≡ size_from j) × (record { number = number; offset = offset; command = byte_at job offset; operand = operand } ≡ fault_in job j)
+EndedAs job j (Finished n) = (rows_answer n ≡ size_from j) × (no_fault ≡ fault_in job j)
+EndedAs job j (Paused p) = ⊥
 
-module _ (room : Bool) (sums : List ℕ) (s : SoundSums room sums) (job : List ℕ) (memory : List ℤ) (b : Bytes job) (r : room_for (length memory) ≡ room) where
-  pub size_is : walked_answer (walk_from room 4097 job first_place (no_joints sums) memory).answer ≡ size_of job
-  unfolding size_of placed
-  size_is = size_of_lem job (listed job) (walk_from room 4097 job first_place (no_joints sums) memory) memory (begin_matches room sums s job memory b r)
+ended_from : (job : List ℕ) (j : Listing) (f : Final) (memory : List ℤ) → Matches job j f 0 memory → (a : WalkAnswer) → f.answer ≡ a → EndedAs job (placed_of j) a
+ended_from job (refused number offset) f memory m a e = subst (EndedAs job (refused number offset)) (sym m ∙ e) (refl, refl)
+ended_from job (accepted es) f memory m a e =
+    subst (EndedAs job (accepted (placed_all es))) (sym m.0 ∙ e) (ap rows_answer (omega arith), refl)
 
-  pub fault_is : walked_fault job (walk_from room 4097 job first_place (no_joints sums) memory).answer ≡ fault_of job
-  unfolding fault_of placed
-  fault_is = fault_of_lem job (listed job) (walk_from room 4097 job first_place (no_joints sums) memory) memory (begin_matches room sums s job memory b r)
+abbrev pub Ended : List ℕ → WalkAnswer → Type 0
+Ended job (Refused number offset operand) =
+    (refused_answer number offset ≡ size_of job) × (record { number = number; offset = offset; command = byte_at job offset; operand = operand } ≡ fault_of job)
+Ended job (Finished n) = (rows_answer n ≡ size_of job) × (no_fault ≡ fault_of job)
+Ended job (Paused p) = ⊥
+
+module _ (room : Bool) (job : List ℕ) (memory : List ℤ) (b : Bytes job) (r : room_for (length memory) ≡ room) where
+  pub ended : (a : WalkAnswer) → (walk_from room 4097 job first_place no_joints memory).answer ≡ a → Ended job a
+  unfolding size_of fault_of placed
+  ended a e = shown a (ended_from job (listed job) (walk_from room 4097 job first_place no_joints memory) memory (begin_matches room job memory b r) a e)
+    where
+      shown : (a : WalkAnswer) → EndedAs job (placed_of (listed job)) a → Ended job a
+      shown (Refused number offset operand) h = h
+      shown (Finished n) h = h
+      shown (Paused p) h = h

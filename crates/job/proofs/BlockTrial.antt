@@ -13,11 +13,10 @@ use Rattle.format.specs.Reading.{command_at}
 use Rattle.blocks.specs.Sets.{count_in_range, storey_at, storeys_at, set_at_fault, all_in_range as sets_in_range}
 use Rattle.blocks.specs.FileCommands.{file_command_at, width_at, file_operand_at_fault}
 use Rattle.context.specs.Context.{nothing, next, absent}
-use Rattle.job.specs.declared.FaultAnswer.{FaultAnswer}
 use Rattle.job.specs.Faults.{too_many, misplaced, passes_limit, command_tests, block_tests, tests_at}
 use Rattle.job.specs.Placed.{Placed, placed_all, listed_by, listed, placed}
 use Rattle.job.specs.Reached.{reached_from, reached}
-use Rattle.job.specs.Answers.{fault_of}
+use Rattle.job.specs.Answers.{FaultAnswer, fault_of}
 use Rattle.job.proofs.PlacedCases.{fault_at}
 use Rattle.job.proofs.Refusals.{zeros, settings, finish, begun}
 

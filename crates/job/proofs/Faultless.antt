@@ -3,7 +3,7 @@
 use mathlib.Core.Path.{◌≡◌, refl, sym, ap, ◌∙◌}
 use mathlib.Core.Bool.{Bool, true, false, not, ◌||◌}
 use mathlib.Core.List.{List, [], ◌∷◌}
-use mathlib.Core.Option.{Option, none as nothing-given, some}
+use Rattle.std.specs.Prelude.{Option, None, Some}
 use Prim.Native.Nat.{ℕ, suc, ◌+◌, ◌≤◌, ◌<◌}
 use native.Mathlib.Omega.{arith}
 use lib.Dec.{eqb, leb, ltb}
@@ -156,8 +156,8 @@ pub record Passed (job : List ℕ) (offset count : ℕ) (h : Context) : Type 0 w
 -- another command than settings stands behind them
 pub settings_there : (byte : ℕ) → eqb byte 1 ≡ false → (o : Option Settings) → misplaced byte (given o) ≡ false → missing o ≡ false
 unfolding misplaced
-settings_there byte b nothing-given e = rw b at e
-settings_there byte b (some s) e = refl
+settings_there byte b None e = rw b at e
+settings_there byte b (Some s) e = refl
 
 -- a command that is no end is not the 4,097th
 pub count_below : (byte count : ℕ) → (byte ≡ 0 → ⊥) → too_many byte count ≡ false → count < 4096

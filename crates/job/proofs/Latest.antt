@@ -4,7 +4,7 @@
 use mathlib.Core.Path.{◌≡◌, refl, ap, ◌∙◌}
 use mathlib.Core.Bool.{Bool, true, false, cond}
 use mathlib.Core.List.{List, [], ◌∷◌, ◌++◌}
-use mathlib.Core.Option.{Option, none, some}
+use Rattle.std.specs.Prelude.{Option, None, Some}
 use Prim.Native.Nat.{ℕ}
 use lib.Dec.{eqb}
 use Rattle.format.specs.declared.Command.{Command}
@@ -16,13 +16,13 @@ use Rattle.job.proofs.AcceptedLaws.{accepted_each}
 
 -- ---- one part of what holds, and what a command gives of it
 
-or_none : {A : Type 0} (a : Option A) → or_else a none ≡ a
-or_none none = refl
-or_none (some a) = refl
+or_none : {A : Type 0} (a : Option A) → or_else a None ≡ a
+or_none None = refl
+or_none (Some a) = refl
 
 or_assoc : {A : Type 0} (a b c : Option A) → or_else a (or_else b c) ≡ or_else (or_else a b) c
-or_assoc none b c = refl
-or_assoc (some a) b c = refl
+or_assoc None b c = refl
+or_assoc (Some a) b c = refl
 
 -- a command replaces it or leaves it
 module _ {A : Type 0} (holds : Context → Option A) (gives : Command → Option A) (step : (h : Context) (c : Command) → holds (next h c) ≡ or_else (gives c) (holds h)) where
@@ -31,7 +31,7 @@ module _ {A : Type 0} (holds : Context → Option A) (gives : Command → Option
   after_commands h (p ∷ ps) =
       after_commands (next h p.command) ps ∙ ap (or_else (latest gives ps)) (step h p.command) ∙ or_assoc (latest gives ps) (gives p.command) (holds h)
 
-  from_nothing : (ps : List Placed) → holds nothing ≡ none → holds (context_after nothing ps) ≡ latest gives ps
+  from_nothing : (ps : List Placed) → holds nothing ≡ None → holds (context_after nothing ps) ≡ latest gives ps
   from_nothing ps e = after_commands nothing ps ∙ ap (or_else (latest gives ps)) e ∙ or_none (latest gives ps)
 
 -- ---- settings, joints and wall base
@@ -42,7 +42,7 @@ record Given (h : Context) (c : Command) : Type 0 where
   pub joint : (id : ℕ) → (next h c).joints id ≡ or_else (given_under id (joint_in c)) (h.joints id)
   pub base : (next h c).wall ≡ or_else (base_in c) h.wall
 
-either : {A : Type 0} (b : Bool) (a : A) (o : Option A) → cond b (some a) o ≡ or_else (cond b (some a) none) o
+either : {A : Type 0} (b : Bool) (a : A) (o : Option A) → cond b (Some a) o ≡ or_else (cond b (Some a) None) o
 either true a o = refl
 either false a o = refl
 

@@ -3,29 +3,34 @@
 use mathlib.Core.Path.{◌≡◌, refl, sym, ap, ◌∙◌}
 use mathlib.Core.Bool.{Bool, true, false}
 use mathlib.Core.List.{List, [], ◌∷◌, ◌++◌}
-use mathlib.Core.Option.{Option, none, some, some-injective, none-ne-some}
+use Rattle.std.specs.Prelude.{Option, None, Some}
 use Prim.Native.Nat.{ℕ}
 use lib.IntN.{ℤ, pos}
 use lib.ListN.{length, replicate}
-use Rattle.walls.specs.declared.Wall.{Wall}
+use Rattle.coefficient.specs.declared.Settings.{Settings}
 use Rattle.walls.specs.declared.WallBase.{WallBase}
 use Rattle.walls.specs.declared.Storey.{Storey}
 use Rattle.walls.specs.Storey.{storey_row_from, storey_row}
+use Rattle.walls.specs.Base.{wall_coefficient, base_shear}
 use Rattle.walls.specs.Running.{wall_of}
+use Rattle.exact.specs.Fraction.{Fraction}
+use Rattle.coefficient.specs.Coefficient.{fraction}
+use Rattle.claims.specs.declared.Row.{Row}
 use Rattle.format.specs.declared.Command.{Command}
-use Rattle.format.specs.declared.Command.TheVariants.{Finish as finish, Settings as settings, Joint as joint, Column as column, Beam as beam, Hingeless as hingeless, WallBase as wall_base, Storey as storey, Soil as soil, Footing as footing, Detail as detail}
+use Rattle.format.specs.declared.Command.TheVariants.{Settings as settings, WallBase as wall_base, Storey as storey, Soil as soil}
 use Rattle.layout.proofs.Numbers.{Bytes}
 use Rattle.context.specs.declared.State.{State}
+use Rattle.context.specs.declared.LatestWall.{LatestWall}
 use Rattle.context.specs.Context.{Context, nothing, given, absent}
-use Rattle.context.specs.Running.{room_for, start_state, wall_kept, next_state, with_settings, with_wall, with_ground}
-use Rattle.context.proofs.Shown.{shown, WallShows, Shows, differ, present}
+use Rattle.context.specs.Running.{room_for, start_state, running, wall_kept, next_state}
+use Rattle.context.proofs.Shown.{Shows, present}
 use Rattle.rows.specs.Rows.{words, rows_of, rows_with}
+use Rattle.rows.specs.Writing.{running_storey_row}
 use Rattle.job.specs.Placed.{Placed, context_after, placed_all, rows_at}
 use Rattle.job.specs.Earlier.{or_else, base_in, latest_settings, latest_base}
 use Rattle.job.specs.Walking.{state_through, joints_through, no_joints}
 use Rattle.job.specs.Reached.{reached, located}
-use Rattle.job.specs.LatestWall.{wall_after, carried_row, Carries, AtEveryPlace, AtEveryStorey}
-use Rattle.job.proofs.Begin.{zero_sums}
+use Rattle.job.specs.LatestWall.{Carries, AtEveryPlace, AtEveryStorey}
 use Rattle.job.proofs.Reached.{reached_each, reached_placed}
 use Rattle.job.proofs.AlreadyMet.{placed_both}
 use Rattle.job.proofs.Located.{located_both, state_both, within, before_kept}
@@ -34,48 +39,45 @@ use Rattle.job.proofs.Latest.{settings_left, base_left}
 
 -- ---- worked out once
 
--- the running values after a command, by the base that it gives
-abbrev wall_by : Bool → State → Option WallBase → Wall
-wall_by room t none = t.wall
-wall_by room t (some b) = wall_kept room t b
+-- the latest wall after a command, by the base that it gives
+abbrev wall_by : Bool → State → Option WallBase → LatestWall
+wall_by room t None = t.wall
+wall_by room t (Some b) = wall_kept t.settings room b
 
 wall_next : (room : Bool) (t : State) (c : Command) → (next_state room t c).wall ≡ wall_by room t (base_in c)
-unfolding next_state with_settings with_wall with_ground
-wall_next room t finish = refl
-wall_next room t (settings s) = refl
-wall_next room t (joint id j) = refl
-wall_next room t (column c) = refl
-wall_next room t (beam b) = refl
-wall_next room t (hingeless id1 id2 m) = refl
+unfolding next_state
 wall_next room t (wall_base b) = refl
-wall_next room t (storey s) = refl
+wall_next room t (settings s) = refl
 wall_next room t (soil s) = refl
-wall_next room t (footing f) = refl
-wall_next room t (detail d) = refl
+wall_next room t _ = refl
 
 -- a base command works them out, from its operands and the settings
-pub values_made : (t : State) (b : WallBase) → (next_state true t (wall_base b)).wall ≡ wall_of t.settings.behaviour b
-values_made t b = wall_next true t (wall_base b)
+pub values_made : (t : State) (s : Settings) (b : WallBase) → t.settings ≡ Some s → running (next_state true t (wall_base b)).wall ≡ Some (wall_of s.behaviour b)
+values_made t s b e = rw (wall_next true t (wall_base b), e)
 
-neither : {A : Type 0} (a b : Option A) → or_else a b ≡ none → (a ≡ none) × (b ≡ none)
-neither none b e = (refl, e)
-neither (some a) b e = absurd (none-ne-some a (sym e))
+neither : {A : Type 0} (a b : Option A) → or_else a b ≡ None → (a ≡ None) × (b ≡ None)
+neither None b e = (refl, e)
+neither (Some a) b e = absurd cc
 
 -- the commands up to the next base leave them, whatever they are
-pub values_kept : (room : Bool) (t : State) (ps : List Placed) → latest_base ps ≡ none → (state_through room t (located ps)).wall ≡ t.wall
+pub values_kept : (room : Bool) (t : State) (ps : List Placed) → latest_base ps ≡ None → (state_through room t (located ps)).wall ≡ t.wall
 values_kept room t [] e = refl
 values_kept room t (p ∷ ps) e =
     let (later, own) = neither (latest_base ps) (base_in p.command) e in
     values_kept room (next_state room t p.command) ps later ∙ wall_next room t p.command ∙ ap (wall_by room t) own
 
 -- a walk without room works out none
-pub none_without_room : (t : State) (ps : List Placed) → (state_through false t (located ps)).wall ≡ t.wall
-none_without_room t [] = refl
-none_without_room t (p ∷ ps) = none_without_room (next_state false t p.command) ps ∙ wall_next false t p.command ∙ same (base_in p.command)
+pub none_without_room : (t : State) (ps : List Placed) → running t.wall ≡ None → running (state_through false t (located ps)).wall ≡ None
+none_without_room t [] e = e
+none_without_room t (p ∷ ps) e = none_without_room (next_state false t p.command) ps (ap running (wall_next false t p.command) ∙ same (base_in p.command))
   where
-    same : (o : Option WallBase) → wall_by false t o ≡ t.wall
-    same none = refl
-    same (some b) = refl
+    kept : (s : Option Settings) (b : WallBase) → running (wall_kept s false b) ≡ None
+    kept None b = refl
+    kept (Some s) b = refl
+
+    same : (o : Option WallBase) → running (wall_by false t o) ≡ None
+    same None = e
+    same (Some b) = kept t.settings b
 
 -- ---- those of the latest base
 
@@ -83,36 +85,37 @@ module _ (job : List ℕ) (b : Bytes job) (earlier later : List Placed) (e : pla
   there : State
   there = state_through true start_state (located earlier)
 
-  shows : Shows true there (joints_through true (no_joints (replicate 768 0)) (located earlier)) (context_after nothing earlier)
-  unfolding there
-  shows = shows_after true (replicate 768 0) (zero_sums true) job b earlier later e
+  after : Context
+  after = context_after nothing earlier
 
-  module _ (base : WallBase) (l : latest_base earlier ≡ some base) where
-    holds : (context_after nothing earlier).wall ≡ some base
+  shows : Shows true there (joints_through no_joints (located earlier)) after
+  unfolding there after
+  shows = shows_after true job b earlier later e
+
+  module _ (base : WallBase) (l : latest_base earlier ≡ Some base) where
+    holds : after.wall ≡ Some base
+    unfolding after
     holds = base_left earlier ∙ l
 
-    walled : there.walled ≡ true
-    walled = sym shows.walled ∙ ap given holds
-
-    wall_is : there.wall ≡ wall_of there.settings.behaviour base
-    wall_is = by there.walled walled (shows.wall refl)
+    given_settings : (s : Settings) × (after.settings ≡ Some s)
+    given_settings = by after.settings refl
       where
-        by : (w : Bool) → w ≡ true → WallShows w there.wall there.settings.behaviour (context_after nothing earlier).wall → there.wall ≡ wall_of there.settings.behaviour base
-        by false f s = absurd (differ (sym f))
-        by true f (c, h, s) = s ∙ ap (wall_of there.settings.behaviour) (some-injective c base (sym h ∙ holds))
-
-    settings_are : latest_settings earlier ≡ some there.settings
-    settings_are = sym (settings_left earlier) ∙ shows.settings ∙ ap (λ (g : Bool). shown g there.settings) (shows.ordered walled)
+        by : (o : Option Settings) → after.settings ≡ o → (s : Settings) × (after.settings ≡ Some s)
+        by None q = let z : ◌≡◌ {A = Option WallBase} None (Some base) = sym (shows.ordered (ap given q)) ∙ holds in absurd cc
+        by (Some s) q = (s, q)
 
     carried : Carries earlier base
-    unfolding wall_of there
+    unfolding wall_of there after
     carried =
+        let (s, q) = given_settings in
         record {
-          settings = there.settings;
-          given = settings_are;
-          coefficient = rw wall_is;
-          shear = rw wall_is;
-          resistance = rw wall_is;
+          settings = s;
+          given = sym (settings_left earlier) ∙ q;
+          wall = wall_of s.behaviour base;
+          running_values = ap (λ (t : State). running t.wall) shows.state ∙ rw (q, holds);
+          coefficient = refl;
+          shear = refl;
+          resistance = refl;
         }
 
 -- eight words are room for a row
@@ -126,15 +129,21 @@ room₈ = refl
 -- at every place behind a base
 pub at_every_place : (job : List ℕ) → Bytes job → AtEveryPlace job
 at_every_place job b before later e base l = (
-  ap (λ (t : State). t.wall) (state_there true (replicate 768 0) (zero_sums true) job b before later e memory₈ room₈),
+  ap (λ (t : State). running t.wall) (state_there true job b before later e memory₈ room₈),
   carried job b (placed_all before) (placed_all later) (ap placed_all e ∙ placed_both before later) base l,
 )
 
 -- the row of a storey that stands behind its base
-row_carried : (earlier : List Placed) (p : Placed) (base : WallBase) (s : Storey) → p.context.settings ≡ latest_settings earlier → p.context.wall ≡ some base → p.command ≡ storey s →
-    Carries earlier base → rows_at p ≡ words p.offset 7 (carried_row (wall_after earlier) s) ∷ []
-unfolding rows_of rows_with storey_row storey_row_from
-row_carried earlier p base s es ew c k = rw (c, es ∙ k.given, ew, k.coefficient, k.shear, k.resistance)
+row_carried : (earlier : List Placed) (p : Placed) (base : WallBase) (s : Storey) → p.context.settings ≡ latest_settings earlier → p.context.wall ≡ Some base → p.command ≡ storey s →
+    (k : Carries earlier base) → rows_at p ≡ words p.offset 7 (running_storey_row k.wall s) ∷ []
+unfolding rows_of rows_with storey_row
+row_carried earlier p base s es ew c k =
+    let q = k.settings.behaviour in
+    let same : storey_row_from (fraction k.wall.coefficient) k.wall.shear k.wall.resistance s ≡ storey_row q base s =
+    ap (λ (a : Fraction). storey_row_from a k.wall.shear k.wall.resistance s) k.coefficient
+    ∙ ap (λ (w : ℕ). storey_row_from (wall_coefficient q base) w k.wall.resistance s) k.shear
+    ∙ ap (λ (r : ℕ). storey_row_from (wall_coefficient q base) (base_shear q base) r s) k.resistance in
+    rw (c, es ∙ k.given, ew) (ap (λ (r : Row). words p.offset 7 r ∷ []) (sym same))
 
 -- at every storey
 pub at_every_storey : (job : List ℕ) → Bytes job → AtEveryStorey job
@@ -142,12 +151,11 @@ unfolding absent
 at_every_storey job b earlier p later e s c =
     let (context, t) = reached_placed job earlier p later e in
     let (base, holds) = present p.context.wall (rw c at t.present) in
-    let l : latest_base earlier ≡ some base = sym (base_left earlier) ∙ ap (λ (h : Context). h.wall) (sym context) ∙ holds in
+    let l : latest_base earlier ≡ Some base = sym (base_left earlier) ∙ ap (λ (h : Context). h.wall) (sym context) ∙ holds in
     let k = carried job b earlier (p ∷ later) e base l in
     let w = within (reached job) earlier p later e in
     let at = reached_each job w.before w.entry w.after w.listed in
-    let room = zero_sums true in
-    let state = state_there true (replicate 768 0) room job b w.before (w.entry ∷ w.after) w.listed memory₈ room₈ in
+    let state = state_there true job b w.before (w.entry ∷ w.after) w.listed memory₈ room₈ in
     record {
       base = base;
       latest = l;
@@ -157,9 +165,9 @@ at_every_storey job b earlier p later e s c =
       sets = w.sets;
       among = (w.rest, w.among);
       earlier_are = w.earlier_are;
-      offset = ends_there true (replicate 768 0) room job b w.before (w.entry ∷ w.after) w.listed memory₈ room₈ ∙ sym at.place;
-      pauses = pauses_there true (replicate 768 0) room job b w.before (w.entry ∷ w.after) w.listed;
-      stands = stands_after true (replicate 768 0) room job b w.before (w.entry ∷ w.after) w.listed;
+      offset = ends_there true job b w.before (w.entry ∷ w.after) w.listed memory₈ room₈ ∙ sym at.place;
+      pauses = pauses_there true job b w.before (w.entry ∷ w.after) w.listed;
+      stands = stands_after true job b w.before (w.entry ∷ w.after) w.listed;
       state = state ∙ sym (
           ap (λ (ps : List Placed). state_through true start_state (located ps)) w.earlier_are
           ∙ ap (state_through true start_state) (located_both (placed_all w.before) w.sets)

@@ -32,9 +32,9 @@ pub state_both : (room : Bool) (t : State) (cs ds : List (ℕ × Command)) → s
 state_both room t [] ds = refl
 state_both room t ((at, c) ∷ cs) ds = state_both room (next_state room t c) cs ds
 
-pub joints_both : (room : Bool) (joints : JointTable) (cs ds : List (ℕ × Command)) → joints_through room joints (cs ++ ds) ≡ joints_through room (joints_through room joints cs) ds
-joints_both room joints [] ds = refl
-joints_both room joints ((at, c) ∷ cs) ds = joints_both room (next_joints room joints c) cs ds
+pub joints_both : (joints : JointTable) (cs ds : List (ℕ × Command)) → joints_through joints (cs ++ ds) ≡ joints_through (joints_through joints cs) ds
+joints_both joints [] ds = refl
+joints_both joints ((at, c) ∷ cs) ds = joints_both (next_joints joints c) cs ds
 
 fit_both : (cs ds : List (ℕ × Command)) → AllFit cs → AllFit ds → AllFit (cs ++ ds)
 fit_both [] ds f g = g

@@ -17,7 +17,7 @@ use Rattle.blocks.specs.FileCommands.{width_at}
 use Rattle.blocks.proofs.FileCommands.{width_one, width_block}
 use Rattle.context.specs.Context.{Context, given}
 use Rattle.context.specs.Running.{room_for, JointTable}
-use Rattle.context.proofs.Shown.{Shows, settings_given_lem, absent_same, missing_flag}
+use Rattle.context.proofs.Shown.{Shows, settings_given_lem, walled_lem, absent_same}
 use Rattle.rows.specs.Writing.{stored_all}
 use Rattle.rows.proofs.Memory.{stored_all_keeps}
 use Rattle.rows.proofs.Laws.{stored_all_none}
@@ -29,7 +29,7 @@ use Rattle.job.specs.Reached.{place_behind}
 use Rattle.job.proofs.PlacedCases.{fault_at, context_behind}
 use Rattle.job.proofs.Faultless.{or_false, or_true, command_fault_lem, block_fault_lem, Chained, Passed, passed, end_of_lem}
 use Rattle.job.proofs.Steps.{walk_step_suc, onward, goes_on, one_fault, many_fault}
-use Rattle.job.proofs.Through.{ids_read, ids_given, shows_through, rows_through_lem, rows_through_many, eights_through}
+use Rattle.job.proofs.Through.{ids_read, ids_given, shows_through, rows_through_lem, rows_counted, eights_through}
 
 -- ---- the fault off the state is the fault off the context
 
@@ -63,7 +63,7 @@ module _ (room : Bool) (job : List ℕ) (p : Place) (joints : JointTable) (h : C
         or_true (known (byte_at job p.offset)),
         after,
         settings_given_lem room p.state joints h s,
-        missing_flag p.state.walled h.wall s.walled,
+        walled_lem room p.state joints h s,
       ))
 
   pub fault_same : fault_from job p joints ≡ fault_at job p.offset p.count h
@@ -75,32 +75,17 @@ module _ (room : Bool) (job : List ℕ) (p : Place) (joints : JointTable) (h : C
 
 -- ---- its rows
 
--- the rows of the commands at a place leave what those of the placed commands leave, and are as many
-record Alike (rows placed : List (List ℤ)) (n : ℕ) (memory : List ℤ) : Type 0 where
-  pub many : length rows ≡ length placed
-  pub left : stored_all memory n rows ≡ stored_all memory n placed
-
 module _ (job : List ℕ) (p : Place) (joints : JointTable) (h : Context) (b : Bytes job) (c : Chained h (placed_in (entry_at job p.offset h))) (memory : List ℤ) where
   abbrev own : List (List ℤ)
   own = all_rows (placed_in (entry_at job p.offset h))
 
-  with_room : Shows true p.state joints h → Alike (rows_here true job p joints) own p.rows memory
+  -- the rows of the commands at a place leave what those of the placed commands leave
+  rows_alike : (room : Bool) → room_for (length memory) ≡ room → Shows room p.state joints h → stored_all memory p.rows (rows_here room job p joints) ≡ stored_all memory p.rows own
   unfolding rows_here
-  with_room s =
-      let same = rows_through_lem p.state joints h s (commands_here job p) (ids_given job p.offset b) c in
-      record { many = ap length same; left = ap (stored_all memory p.rows) same }
-
-  without : length memory < 8 → Shows false p.state joints h → Alike (rows_here false job p joints) own p.rows memory
-  unfolding rows_here
-  without l s =
-      record {
-        many = rows_through_many p.state joints h s (commands_here job p) (ids_given job p.offset b) c;
-        left = stored_all_none memory p.rows (rows_here false job p joints) (omega arith) ∙ sym (stored_all_none memory p.rows own (omega arith));
-      }
-
-  rows_alike : (room : Bool) → room_for (length memory) ≡ room → Shows room p.state joints h → Alike (rows_here room job p joints) own p.rows memory
-  rows_alike true r s = with_room s
-  rows_alike false r s = without (leb-false 8 (length memory) r) s
+  rows_alike true r s = ap (stored_all memory p.rows) (rows_through_lem p.state joints h s (commands_here job p) (ids_given job p.offset b) c)
+  rows_alike false r s =
+      let l = leb-false 8 (length memory) r in
+      stored_all_none memory p.rows (rows_through false p.state joints (commands_here job p)) (omega arith) ∙ sym (stored_all_none memory p.rows own (omega arith))
 
 -- ---- what holds on the way
 
@@ -114,7 +99,7 @@ pub record Going (room : Bool) (n : ℕ) (job : List ℕ) (p : Place) (joints : 
   pub offset : p.offset ≤ length job
 
 going_on : (room : Bool) (n : ℕ) (job : List ℕ) (p : Place) (joints : JointTable) (memory : List ℤ) (h : Context) → Going room (suc n) job p joints memory h → Passed job p.offset p.count h → (byte_at job p.offset ≡ 0 → ⊥) →
-    Going room n job (next_place room job p joints) (joints_through room joints (commands_here job p)) (stored_all memory p.rows (rows_here room job p joints)) (context_behind job p.offset h)
+    Going room n job (next_place room job p) (joints_through joints (commands_here job p)) (stored_all memory p.rows (rows_here room job p joints)) (context_behind job p.offset h)
 unfolding next_place rows_here
 going_on room n job p joints memory h g f z =
     record {
@@ -136,7 +121,7 @@ module _ (room : Bool) (job : List ℕ) (p : Place) (joints : JointTable) (memor
   first = entry_at job p.offset h
 
   abbrev pub joints_then : JointTable
-  joints_then = joints_through room joints (commands_here job p)
+  joints_then = joints_through joints (commands_here job p)
 
   abbrev pub memory_then : List ℤ
   memory_then = stored_all memory p.rows (all_rows (placed_in first))
@@ -144,12 +129,16 @@ module _ (room : Bool) (job : List ℕ) (p : Place) (joints : JointTable) (memor
   without_fault : Passed job p.offset p.count h
   without_fault = passed job p.offset p.count h e
 
-  alike : Alike (rows_here room job p joints) (all_rows (placed_in first)) p.rows memory
+  alike : stored_all memory p.rows (rows_here room job p joints) ≡ memory_then
   alike = rows_alike job p joints h g.bytes (without_fault.chained z) memory room g.room_is g.shows
 
-  behind : next_place room job p joints ≡ place_behind room p first
+  behind : next_place room job p ≡ place_behind room p first
   unfolding next_place
-  behind = rw (← end_of_lem job p.offset p.count h e, alike.many)
+  behind =
+      rw (
+        ← end_of_lem job p.offset p.count h e,
+        rows_counted room p.state joints h g.shows (commands_here job p) (ids_given job p.offset g.bytes) (without_fault.chained z),
+      )
 
   -- the walk goes on behind it
   pub stepped : p.offset < length job → (m : ℕ) → walk_from room (suc m) job p joints memory ≡ walk_from room m job (place_behind room p first) joints_then memory_then
@@ -157,10 +146,10 @@ module _ (room : Bool) (job : List ℕ) (p : Place) (joints : JointTable) (memor
       walk_step_suc room job p joints memory m
       ∙ goes_on job p joints memory (onward room m job p joints memory) l (fault_same room job p joints h g.bytes g.shows ∙ e) z
       ∙ ap (λ (k : Place). walk_from room m job k joints_then (stored_all memory p.rows (rows_here room job p joints))) behind
-      ∙ ap (walk_from room m job (place_behind room p first) joints_then) alike.left
+      ∙ ap (walk_from room m job (place_behind room p first) joints_then) alike
 
   pub further : Going room n job (place_behind room p first) joints_then memory_then (context_behind job p.offset h)
   further =
-      subst (λ (m : List ℤ). Going room n job (place_behind room p first) joints_then m (context_behind job p.offset h)) alike.left
+      subst (λ (m : List ℤ). Going room n job (place_behind room p first) joints_then m (context_behind job p.offset h)) alike
       (subst (λ (k : Place). Going room n job k joints_then (stored_all memory p.rows (rows_here room job p joints)) (context_behind job p.offset h)) behind
       (going_on room n job p joints memory h g without_fault z))

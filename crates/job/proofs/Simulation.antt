@@ -16,11 +16,10 @@ use Rattle.context.specs.Running.{JointTable}
 use Rattle.rows.specs.Writing.{stored_all}
 use Rattle.rows.proofs.Laws.{stored_all_append}
 use Rattle.job.specs.declared.Place.{Place}
-use Rattle.job.specs.declared.Walked.TheVariants.{Refused, Finished}
 use Rattle.job.specs.Faults.{tests_at, operand_named}
 use Rattle.job.specs.Placed.{Entry, entry_at, placed_in, placed_all, Listing, refused, accepted, before, listed_by, all_rows}
 use Rattle.job.specs.Earlier.{end_of}
-use Rattle.job.specs.Walking.{fault_from, Final, outcome, walk_from}
+use Rattle.job.specs.Walking.{Refused, Finished, fault_from, Final, outcome, walk_from}
 use Rattle.job.proofs.PlacedCases.{fault_at, weight_at, context_behind, placed_none, placed_fault, placed_more, placed_end, placed_goes}
 use Rattle.job.proofs.Faultless.{end_of_lem}
 use Rattle.job.proofs.AlreadyMet.{rows_of_both}

@@ -1,36 +1,41 @@
 -- One step of the walk over plain values: what stops it, and how it goes on. Assumes nothing.
 use mathlib.Core.Path.{◌≡◌, refl, sym, ap, ◌∙◌}
-use mathlib.Core.Bool.{Bool, true, false, not, cond}
+use mathlib.Core.Bool.{Bool, true, false, not}
 use mathlib.Core.List.{List, [], ◌∷◌, ◌++◌}
-use Prim.Native.Nat.{ℕ, suc, ◌+◌, ◌-◌, ◌*◌, ◌≤◌, ◌<◌}
+use Prim.Native.Nat.{ℕ, zero, suc, ◌+◌, ◌-◌, ◌*◌, ◌≤◌, ◌<◌}
 use native.Mathlib.Omega.{arith}
-use lib.Dec.{eqb, leb, ltb}
+use lib.Dec.{lit<, leb, ltb}
 use lib.IntN.{ℤ}
 use lib.ListN.{length}
-use borrow.Author.Tests.{le-leb, lt-leb, lt-ltb, le-ltb, ne_eqb, leb-false, ltb-false}
+use borrow.Author.Tests.{le-leb, lt-leb, lt-ltb, le-ltb, ne_eqb, ltb-false}
+use Rattle.std.specs.Prelude.{Some}
 use Rattle.layout.specs.Layouts.{known, operands_width}
 use Rattle.layout.specs.Operands.{byte_at}
+use Rattle.format.specs.declared.Command.{Command}
 use Rattle.format.specs.Commands.{in_range}
 use Rattle.format.specs.Reading.{command_at}
-use Rattle.blocks.specs.Sets.{is_block, count_at, count_in_range, sets_of, all_in_range, set_named}
-use Rattle.blocks.specs.FileCommands.{FileCommand, file_command_at, file_operand_at_fault}
-use Rattle.blocks.proofs.Sets.{storeys_length, one_named}
-use Rattle.blocks.proofs.FileCommands.{at_block}
-use Rattle.context.specs.Running.{JointTable, absent_in}
+use Rattle.blocks.specs.Sets.{is_block, count_at, count_in_range, sets_of, all_in_range, operand_named as set_named}
+use Rattle.blocks.specs.FileCommands.{FileCommand, one, file_command_at, file_operand_at_fault}
+use Rattle.blocks.proofs.Sets.{storeys_length, set_found}
+use Rattle.blocks.proofs.FileCommands.{at_one, at_block}
+use Rattle.context.specs.Context.{given}
+use Rattle.context.specs.Running.{JointTable, walled}
 use Rattle.rows.specs.Writing.{stored_all}
 use Rattle.job.specs.declared.Place.{Place}
-use Rattle.job.specs.declared.Walked.{Walked}
-use Rattle.job.specs.declared.Walked.TheVariants.{Refused, Finished, Paused}
+use Rattle.job.specs.declared.Refusal.{Refusal}
+use Rattle.job.specs.declared.Refusal.TheVariants.{CutShort, Unknown, BytesAfterEnd, MisplacedSettings, OutOfRange, Absent, TooMany}
+use Rattle.job.specs.Refusals.{number_of, operand_of}
 use Rattle.job.specs.Faults.{too_many, misplaced, passes_limit, first_of, operand_named}
-use Rattle.job.specs.Walking.{early_tests, early_fault, command_fault, block_early_tests, block_early_fault, block_fault, fault_from, Final, commands_here, joints_through, rows_here, next_place, outcome, walk_from}
+use Rattle.job.proofs.Faultless.{known_single}
+use Rattle.job.specs.Walking.{early_tests, early_fault, late_tests, late_fault, command_fault, block_fault, fault_from, WalkAnswer, Refused, Finished, Paused, Final, commands_here, joints_through, rows_here, next_place, outcome, walk_from}
 
-abbrev pub stop : JointTable → List ℤ → Walked → Final
+abbrev pub stop : JointTable → List ℤ → WalkAnswer → Final
 stop joints memory a = record { answer = a; joints = joints; memory = memory }
 
 -- the rest of the walk after the command at a place
 abbrev pub onward : Bool → ℕ → List ℕ → Place → JointTable → List ℤ → Final
 onward room n job p joints memory =
-    walk_from room n job (next_place room job p joints) (joints_through room joints (commands_here job p)) (stored_all memory p.rows (rows_here room job p joints))
+    walk_from room n job (next_place room job p) (joints_through joints (commands_here job p)) (stored_all memory p.rows (rows_here room job p joints))
 
 module _ (room : Bool) (job : List ℕ) (p : Place) (joints : JointTable) (memory : List ℤ) where
   pub walk_none : walk_from room 0 job p joints memory ≡ stop joints memory (Paused p)
@@ -79,6 +84,11 @@ first_front [] us n e = absurd (none n e)
 first_front ((true, k) ∷ ts) us n e = e
 first_front ((false, k) ∷ ts) us n e = first_front ts us n e
 
+-- each has a number
+abbrev Found : List (Bool × ℕ) → Type 0
+Found [] = Unit {0}
+Found ((b, k) ∷ ts) = (k ≡ 0 → ⊥) × Found ts
+
 no_zero : (k : ℕ) → suc k ≡ 0 → ⊥
 no_zero k e = omega arith
 
@@ -105,16 +115,16 @@ pub record Early (job : List ℕ) (p : Place) : Type 0 where
   pub known_byte : known (byte_at job p.offset) ≡ true
   pub whole : p.offset + 1 + operands_width (byte_at job p.offset) ≤ length job
   pub few : too_many (byte_at job p.offset) p.count ≡ false
-  pub placed : misplaced (byte_at job p.offset) p.state.given ≡ false
+  pub placed : misplaced (byte_at job p.offset) (given p.state.settings) ≡ false
 
-pub early_none : (job : List ℕ) (p : Place) → early_fault (length job) p.offset (byte_at job p.offset) p.count p.state.given ≡ 0 → Early job p
+pub early_none : (job : List ℕ) (p : Place) → early_fault (length job) p.offset (byte_at job p.offset) p.count (given p.state.settings) ≡ 0 → Early job p
 unfolding early_fault
-early_none job p = by (known byte) (ltb (length job) (p.offset + 1 + operands_width byte)) (too_many byte p.count) (misplaced byte p.state.given) refl refl refl refl
+early_none job p = by (known byte) (ltb (length job) (p.offset + 1 + operands_width byte)) (too_many byte p.count) (misplaced byte (given p.state.settings)) refl refl refl refl
   where
     byte : ℕ
     byte = byte_at job p.offset
 
-    by : (k s m g : Bool) → known (byte_at job p.offset) ≡ k → ltb (length job) (p.offset + 1 + operands_width (byte_at job p.offset)) ≡ s → too_many (byte_at job p.offset) p.count ≡ m → misplaced (byte_at job p.offset) p.state.given ≡ g →
+    by : (k s m g : Bool) → known (byte_at job p.offset) ≡ k → ltb (length job) (p.offset + 1 + operands_width (byte_at job p.offset)) ≡ s → too_many (byte_at job p.offset) p.count ≡ m → misplaced (byte_at job p.offset) (given p.state.settings) ≡ g →
         first_of ((not k, 2) ∷ (s, 1) ∷ (m, 8) ∷ (g, 4) ∷ []) ≡ 0 → Early job p
     by false s m g e1 e2 e3 e4 z = absurd (no_zero 1 z)
     by true true m g e1 e2 e3 e4 z = absurd (no_zero 0 z)
@@ -122,124 +132,124 @@ early_none job p = by (known byte) (ltb (length job) (p.offset + 1 + operands_wi
     by true false false true e1 e2 e3 e4 z = absurd (no_zero 3 z)
     by true false false false e1 e2 e3 e4 z = record { known_byte = e1; whole = ltb-false (length job) (p.offset + 1 + operands_width (byte_at job p.offset)) e2; few = e3; placed = e4 }
 
-module _ (job : List ℕ) (p : Place) (joints : JointTable) (b : is_block (byte_at job p.offset) ≡ false) where
-  pub one_fault : fault_from job p joints ≡ command_fault job p joints
-  unfolding fault_from
-  one_fault = rw b
+-- a refusal of the code that is due by these tests: its number, and the operand that it names
+pub record Due (fault : ℕ) (c : FileCommand) (r : Refusal) : Type 0 where
+  pub number : number_of r ≡ fault
+  pub operand : operand_of r ≡ operand_named (number_of r) c
 
-  pub early_fault_lem : (n : ℕ) → early_fault (length job) p.offset (byte_at job p.offset) p.count p.state.given ≡ suc n → fault_from job p joints ≡ suc n
+pub some_number : (r : Refusal) → 0 < number_of r
+some_number CutShort = lit< tt
+some_number Unknown = lit< tt
+some_number BytesAfterEnd = lit< tt
+some_number MisplacedSettings = lit< tt
+some_number (OutOfRange operand) = lit< tt
+some_number Absent = lit< tt
+some_number TooMany = lit< tt
+
+-- where none of the first finds a fault, the fault is that of the others
+behind : (ts us : List (Bool × ℕ)) → Found ts → first_of ts ≡ 0 → first_of (ts ++ us) ≡ first_of us
+behind [] us f z = refl
+behind ((true, k) ∷ ts) us f z = absurd (f.0 z)
+behind ((false, k) ∷ ts) us f z = behind ts us f.1 z
+
+module _ (job : List ℕ) (p : Place) (joints : JointTable) where
+  abbrev here : FileCommand
+  here = file_command_at job p.offset
+
+  abbrev pub early_here : ℕ
+  early_here = early_fault (length job) p.offset (byte_at job p.offset) p.count (given p.state.settings)
+
+  early_first : (n : ℕ) → 0 < n → n ≡ early_here → n ≡ command_fault job p joints
   unfolding early_fault command_fault
-  early_fault_lem n e =
-      let c = command_at job p.offset in
-      one_fault
-      ∙ first_front (early_tests (length job) p.offset (byte_at job p.offset) p.count p.state.given) ((not (in_range c), 5) ∷ (absent_in p.state joints.given c, 6) ∷ []) n e
+  early_first zero l e = absurd (omega arith)
+  early_first (suc n) l e =
+      sym (first_front (early_tests (length job) p.offset (byte_at job p.offset) p.count (given p.state.settings)) (late_tests p.state joints (command_at job p.offset)) n (sym e))
 
-  -- the other tests, in their order
-  module _ (e : Early job p) where
-    not_cut : ltb (length job) (p.offset + 1 + operands_width (byte_at job p.offset)) ≡ false
-    not_cut = le-ltb (length job) (p.offset + 1 + operands_width (byte_at job p.offset)) e.whole
+  pub early_due : (r : Refusal) → number_of r ≡ early_here → operand_of r ≡ 0 → Due (command_fault job p joints) here r
+  early_due r e o =
+      record {
+        number = early_first (number_of r) (some_number r) e;
+        operand = o ∙ sym (early_named (length job) p.offset (byte_at job p.offset) p.count (given p.state.settings) here (number_of r) (sym e));
+      }
 
-    pub fault5 : in_range (command_at job p.offset) ≡ false → fault_from job p joints ≡ 5
-    unfolding command_fault
-    fault5 r = one_fault ∙ rw (e.known_byte, not_cut, e.few, e.placed, r)
+  -- the other tests, behind these
+  module _ (z : early_here ≡ 0) (c : Command) (q : c ≡ command_at job p.offset) where
+    abbrev late_here : ℕ
+    late_here = late_fault p.state joints c
 
-    module _ (r : in_range (command_at job p.offset) ≡ true) where
-      pub fault6 : absent_in p.state joints.given (command_at job p.offset) ≡ true → fault_from job p joints ≡ 6
-      unfolding command_fault
-      fault6 a = one_fault ∙ rw (e.known_byte, not_cut, e.few, e.placed, r, a)
+    pub late_is : late_here ≡ command_fault job p joints
+    unfolding early_fault late_fault command_fault
+    late_is =
+        rw q (
+        sym (behind (early_tests (length job) p.offset (byte_at job p.offset) p.count (given p.state.settings)) (late_tests p.state joints (command_at job p.offset)) (no_zero 1, (no_zero 0, (no_zero 7, (no_zero 3, tt)))) z)
+        )
 
-      pub fault0 : absent_in p.state joints.given (command_at job p.offset) ≡ false → fault_from job p joints ≡ 0
-      unfolding command_fault
-      fault0 a = one_fault ∙ rw (e.known_byte, not_cut, e.few, e.placed, r, a)
+    pub late_due : (r : Refusal) → number_of r ≡ late_here → operand_of r ≡ operand_named (number_of r) (one c) → Due (command_fault job p joints) here r
+    late_due r e o =
+        record {
+          number = e ∙ late_is;
+          operand = o ∙ ap (operand_named (number_of r)) (ap one q ∙ sym (at_one job p.offset (known_single (byte_at job p.offset) (early_none job p z).known_byte)));
+        }
+
+    pub late_none : late_here ≡ 0 → in_range c ≡ true
+    unfolding late_fault
+    late_none e = by (in_range c) refl
+      where
+        by : (k : Bool) → in_range c ≡ k → in_range c ≡ true
+        by true r = r
+        by false r = absurd (no_zero 4 (rw r at e))
+
+  -- of a command by itself these are the tests
+  pub one_fault : is_block (byte_at job p.offset) ≡ false → fault_from job p joints ≡ command_fault job p joints
+  unfolding fault_from
+  one_fault b = rw b
 
 -- ---- a block
 
--- the tests before that of the sets have passed
-pub record BlockEarly (job : List ℕ) (p : Place) : Type 0 where
-  pub counted : p.offset + 1 < length job
-  pub count_in_range_lem : count_in_range (count_at job p.offset) ≡ true
+pub many_fault : (job : List ℕ) (p : Place) (joints : JointTable) → is_block (byte_at job p.offset) ≡ true → fault_from job p joints ≡ block_fault job p
+unfolding fault_from
+many_fault job p joints b = rw b
+
+module _ (job : List ℕ) (at : ℕ) (b : is_block (byte_at job at) ≡ true) where
+  -- the count is operand 0
+  pub count_named : count_in_range (count_at job at) ≡ false → file_operand_at_fault (file_command_at job at) ≡ 0
+  unfolding file_operand_at_fault
+  count_named h = rw (at_block job at b, storeys_length (count_at job at) job (at + 2), h)
+
+  -- by what the search among the sets answered
+  module _ (named : ℕ) (e : Some named ≡ set_named (sets_of job at)) where
+    pub set_out : all_in_range (sets_of job at) ≡ false
+    set_out = (set_found (sets_of job at) named e).0
+
+    pub set_at : count_in_range (count_at job at) ≡ true → file_operand_at_fault (file_command_at job at) ≡ named
+    unfolding file_operand_at_fault
+    set_at h = rw (at_block job at b, storeys_length (count_at job at) job (at + 2), h) (set_found (sets_of job at) named e).1
+
+-- all of them have passed
+pub record BlockPassed (job : List ℕ) (p : Place) : Type 0 where
+  pub count : count_in_range (count_at job p.offset) ≡ true
   pub whole : p.offset + 2 + 24 * count_at job p.offset ≤ length job
   pub few : p.count + count_at job p.offset ≤ 4096
-  pub given : p.state.given ≡ true
-  pub walled : p.state.walled ≡ true
+  pub ranged : all_in_range (sets_of job p.offset) ≡ true
 
-pub block_early_none : (job : List ℕ) (p : Place) → block_early_fault job p.offset p.count p.state.given p.state.walled ≡ 0 → BlockEarly job p
-unfolding block_early_fault passes_limit
-block_early_none job p =
-    by (leb (length job) (p.offset + 1)) (count_in_range (count_at job p.offset)) (ltb (length job) (p.offset + 2 + 24 * count_at job p.offset)) (ltb 4096 (p.count + count_at job p.offset)) p.state.given p.state.walled refl refl refl refl refl refl
+pub block_passed : (job : List ℕ) (p : Place) → block_fault job p ≡ 0 → BlockPassed job p
+unfolding block_fault passes_limit
+block_passed job p =
+    by (leb (length job) (p.offset + 1)) (count_in_range (count_at job p.offset)) (ltb (length job) (p.offset + 2 + 24 * count_at job p.offset)) (ltb 4096 (p.count + count_at job p.offset)) (given p.state.settings) (walled p.state.wall) (all_in_range (sets_of job p.offset)) refl refl refl refl
   where
-    by : (n i c m g w : Bool) → leb (length job) (p.offset + 1) ≡ n → count_in_range (count_at job p.offset) ≡ i → ltb (length job) (p.offset + 2 + 24 * count_at job p.offset) ≡ c → ltb 4096 (p.count + count_at job p.offset) ≡ m →
-        p.state.given ≡ g → p.state.walled ≡ w →
-        first_of ((n, 1) ∷ (not i, 5) ∷ (c, 1) ∷ (m, 8) ∷ (not g, 4) ∷ (not w, 6) ∷ []) ≡ 0 → BlockEarly job p
-    by true i c m g w e1 e2 e3 e4 e5 e6 z = absurd (no_zero 0 z)
-    by false false c m g w e1 e2 e3 e4 e5 e6 z = absurd (no_zero 4 z)
-    by false true true m g w e1 e2 e3 e4 e5 e6 z = absurd (no_zero 0 z)
-    by false true false true g w e1 e2 e3 e4 e5 e6 z = absurd (no_zero 7 z)
-    by false true false false false w e1 e2 e3 e4 e5 e6 z = absurd (no_zero 3 z)
-    by false true false false true false e1 e2 e3 e4 e5 e6 z = absurd (no_zero 5 z)
-    by false true false false true true e1 e2 e3 e4 e5 e6 z =
+    by : (n i c m g w r : Bool) → count_in_range (count_at job p.offset) ≡ i → ltb (length job) (p.offset + 2 + 24 * count_at job p.offset) ≡ c → ltb 4096 (p.count + count_at job p.offset) ≡ m → all_in_range (sets_of job p.offset) ≡ r →
+        first_of ((n, 1) ∷ (not i, 5) ∷ (c, 1) ∷ (m, 8) ∷ (not g, 4) ∷ (not w, 6) ∷ (not r, 5) ∷ []) ≡ 0 → BlockPassed job p
+    by true i c m g w r e1 e2 e3 e4 z = absurd (no_zero 0 z)
+    by false false c m g w r e1 e2 e3 e4 z = absurd (no_zero 4 z)
+    by false true true m g w r e1 e2 e3 e4 z = absurd (no_zero 0 z)
+    by false true false true g w r e1 e2 e3 e4 z = absurd (no_zero 7 z)
+    by false true false false false w r e1 e2 e3 e4 z = absurd (no_zero 3 z)
+    by false true false false true false r e1 e2 e3 e4 z = absurd (no_zero 5 z)
+    by false true false false true true false e1 e2 e3 e4 z = absurd (no_zero 4 z)
+    by false true false false true true true e1 e2 e3 e4 z =
         record {
-          counted = leb-false (length job) (p.offset + 1) e1;
-          count_in_range_lem = e2;
-          whole = ltb-false (length job) (p.offset + 2 + 24 * count_at job p.offset) e3;
-          few = ltb-false 4096 (p.count + count_at job p.offset) e4;
-          given = e5;
-          walled = e6;
+          count = e1;
+          whole = ltb-false (length job) (p.offset + 2 + 24 * count_at job p.offset) e2;
+          few = ltb-false 4096 (p.count + count_at job p.offset) e3;
+          ranged = e4;
         }
-
-module _ (job : List ℕ) (p : Place) (joints : JointTable) (b : is_block (byte_at job p.offset) ≡ true) where
-  pub many_fault : fault_from job p joints ≡ block_fault job p
-  unfolding fault_from
-  many_fault = rw b
-
-  pub block_early_fault_lem : (n : ℕ) → block_early_fault job p.offset p.count p.state.given p.state.walled ≡ suc n → fault_from job p joints ≡ suc n
-  unfolding block_early_fault block_fault
-  block_early_fault_lem n e =
-      many_fault ∙ first_front (block_early_tests job p.offset p.count p.state.given p.state.walled) ((not (all_in_range (sets_of job p.offset)), 5) ∷ []) n e
-
-  -- 5 is that of the count, operand 0
-  count_named : count_in_range (count_at job p.offset) ≡ false → (n : ℕ) → operand_named n (file_command_at job p.offset) ≡ 0
-  unfolding file_operand_at_fault
-  count_named r n = rw (at_block job p.offset b, storeys_length (count_at job p.offset) job (p.offset + 2), r) (both (eqb n 5))
-    where
-      both : (k : Bool) → ◌≡◌ {A = ℕ} (cond k 0 0) 0
-      both true = refl
-      both false = refl
-
-  pub block_early_named : (n : ℕ) → block_early_fault job p.offset p.count p.state.given p.state.walled ≡ n → operand_named n (file_command_at job p.offset) ≡ 0
-  unfolding block_early_fault
-  block_early_named n e = by (count_in_range (count_at job p.offset)) refl
-    where
-      never : (n c m g w : Bool) → first_of ((n, 1) ∷ (false, 5) ∷ (c, 1) ∷ (m, 8) ∷ (g, 4) ∷ (w, 6) ∷ []) ≡ 5 → ⊥
-      never true c m g w e = omega arith
-      never false true m g w e = omega arith
-      never false false true g w e = omega arith
-      never false false false true w e = omega arith
-      never false false false false true e = omega arith
-      never false false false false false e = omega arith
-
-      by : (i : Bool) → count_in_range (count_at job p.offset) ≡ i → operand_named n (file_command_at job p.offset) ≡ 0
-      by false r = count_named r n
-      by true r =
-          not_named n (file_command_at job p.offset)
-          (λ z. never (leb (length job) (p.offset + 1)) (ltb (length job) (p.offset + 2 + 24 * count_at job p.offset)) (passes_limit (count_at job p.offset) p.count) (not p.state.given) (not p.state.walled) ((rw r at e) ∙ z))
-
-  module _ (e : BlockEarly job p) where
-    pub block_fault_is : (r : Bool) → all_in_range (sets_of job p.offset) ≡ r → fault_from job p joints ≡ first_of ((not r, 5) ∷ [])
-    unfolding block_fault passes_limit
-    block_fault_is r q =
-        many_fault
-        ∙ rw (
-          lt-leb (length job) (p.offset + 1) e.counted,
-          e.count_in_range_lem,
-          le-ltb (length job) (p.offset + 2 + 24 * count_at job p.offset) e.whole,
-          le-ltb 4096 (p.count + count_at job p.offset) e.few,
-          e.given,
-          e.walled,
-          q,
-        )
-
-    pub set_is_named : all_in_range (sets_of job p.offset) ≡ false → operand_named 5 (file_command_at job p.offset) ≡ set_named (sets_of job p.offset)
-    unfolding file_operand_at_fault
-    set_is_named r =
-        rw (at_block job p.offset b, storeys_length (count_at job p.offset) job (p.offset + 2), e.count_in_range_lem) (sym (one_named (sets_of job p.offset) r))

@@ -14,9 +14,9 @@ use Rattle.layout.specs.Operands.{byte_at, operands_at}
 use Rattle.layout.proofs.Numbers.{Bytes}
 use Rattle.layout.proofs.KnownBytes.{each_byte}
 use Rattle.layout.proofs.OperandsRead.{at, Fit, operands_fit}
-use Rattle.coefficient.specs.Coefficient.{fraction}
+use Rattle.std.specs.Prelude.{Option, None, Some}
+use Rattle.walls.specs.declared.Wall.{Wall}
 use Rattle.walls.specs.declared.Storey.{Storey}
-use Rattle.walls.specs.Storey.{storey_row_from}
 use Rattle.format.specs.declared.Command.{Command}
 use Rattle.format.specs.declared.Command.TheVariants.{Finish as finish, Settings as settings, Joint as joint, Column as column, Beam as beam, Hingeless as hingeless, WallBase as wall_base, Storey as storey, Soil as soil, Footing as footing, Detail as detail}
 use Rattle.format.specs.Commands.{byte_of, command_of, in_range}
@@ -27,17 +27,17 @@ use Rattle.blocks.proofs.Sets.{each_in_range}
 use Rattle.blocks.specs.FileCommands.{file_command_at, storeys_from, commands_from}
 use Rattle.blocks.proofs.FileCommands.{at_one, at_block}
 use Rattle.context.specs.declared.State.{State}
-use Rattle.context.specs.Context.{Context, next}
-use Rattle.context.specs.Running.{JointTable, next_state, next_given, next_sums, next_joints, SoundState, SoundSums}
-use Rattle.context.proofs.Laws.{next_sound, sums_sound, given_length, sums_length}
+use Rattle.context.specs.Context.{Context, next, given}
+use Rattle.context.specs.Running.{JointTable, running, next_state, next_joints, SoundState, SoundJoints}
+use Rattle.context.proofs.Laws.{next_sound, joints_sound}
 use Rattle.context.proofs.Shown.{Shows, IdsFit, InPlace, settings_given_lem, shows_next}
-use Rattle.rows.specs.Rows.{rows_of, words}
-use Rattle.rows.specs.Writing.{rows_from, set_rows}
-use Rattle.rows.proofs.Laws.{Eights, words_eight, eights_both, rows_count, rows_le}
+use Rattle.rows.specs.Rows.{row_count, rows_of, words}
+use Rattle.rows.specs.Writing.{running_storey_row, rows_from, set_rows, set_rows_running}
+use Rattle.rows.proofs.Laws.{Eights, words_eight, eights_both, count_le}
 use Rattle.rows.proofs.RowsSame.{rows_same, rows_as_many}
 use Rattle.job.specs.Faults.{misplaced}
 use Rattle.job.specs.Placed.{Placed, context_after, place_each, all_rows}
-use Rattle.job.specs.Walking.{state_through, joints_through, rows_through}
+use Rattle.job.specs.Walking.{state_through, joints_through, row_counts, rows_through}
 use Rattle.job.proofs.Faultless.{Standing, Chained}
 
 -- ---- a command read from bytes has ids that are bytes
@@ -78,19 +78,19 @@ later_place : (g : Bool) → cond g false true ≡ false → g ≡ true
 later_place true e = refl
 later_place false e = sym e
 
-in_place : (t : State) (c : Command) → misplaced (byte_of c) t.given ≡ false → InPlace t c
+in_place : (t : State) (c : Command) → misplaced (byte_of c) (given t.settings) ≡ false → InPlace t c
 unfolding misplaced
 in_place t finish e = tt
-in_place t (settings s) e = first_place_lem t.given e
-in_place t (joint id j) e = later_place t.given e
-in_place t (column c) e = later_place t.given e
-in_place t (beam b) e = later_place t.given e
-in_place t (hingeless id1 id2 m) e = later_place t.given e
-in_place t (wall_base b) e = later_place t.given e
-in_place t (storey s) e = later_place t.given e
-in_place t (soil s) e = later_place t.given e
-in_place t (footing f) e = later_place t.given e
-in_place t (detail d) e = later_place t.given e
+in_place t (settings s) e = first_place_lem (given t.settings) e
+in_place t (joint id j) e = later_place (given t.settings) e
+in_place t (column c) e = later_place (given t.settings) e
+in_place t (beam b) e = later_place (given t.settings) e
+in_place t (hingeless id1 id2 m) e = later_place (given t.settings) e
+in_place t (wall_base b) e = later_place (given t.settings) e
+in_place t (storey s) e = later_place (given t.settings) e
+in_place t (soil s) e = later_place (given t.settings) e
+in_place t (footing f) e = later_place (given t.settings) e
+in_place t (detail d) e = later_place (given t.settings) e
 
 -- ---- one command, then the others
 
@@ -101,15 +101,15 @@ module _ (room : Bool) (t : State) (joints : JointTable) (h : Context) (s : Show
   placed_here : Standing here → InPlace t c
   placed_here w = in_place t c (ap (λ (g : Bool). misplaced (byte_of c) g) (sym (settings_given_lem room t joints h s)) ∙ w.settings)
 
-  shown_here : IdsFit c → Standing here → Shows room (next_state room t c) (next_joints room joints c) (next h c)
+  shown_here : IdsFit c → Standing here → Shows room (next_state room t c) (next_joints joints c) (next h c)
   shown_here i w = shows_next room t joints h s c i (placed_here w)
 
 -- they leave a state and tables that show what holds then
 pub shows_through : (room : Bool) (t : State) (joints : JointTable) (h : Context) → Shows room t joints h → (cs : List (ℕ × Command)) → AllFit cs → Chained h (place_each h cs) →
-    Shows room (state_through room t cs) (joints_through room joints cs) (context_after h (place_each h cs))
+    Shows room (state_through room t cs) (joints_through joints cs) (context_after h (place_each h cs))
 shows_through room t joints h s [] f k = s
 shows_through room t joints h s ((at, c) ∷ cs) (i, f) (e, w, k) =
-    shows_through room (next_state room t c) (next_joints room joints c) (next h c) (shown_here room t joints h s at c i w) cs f k
+    shows_through room (next_state room t c) (next_joints joints c) (next h c) (shown_here room t joints h s at c i w) cs f k
 
 -- where rows are to be written they are those of the context
 pub rows_through_lem : (t : State) (joints : JointTable) (h : Context) → Shows true t joints h → (cs : List (ℕ × Command)) → AllFit cs → Chained h (place_each h cs) → rows_through true t joints cs ≡ all_rows (place_each h cs)
@@ -117,25 +117,20 @@ unfolding rows_through all_rows
 rows_through_lem t joints h s [] f k = refl
 rows_through_lem t joints h s ((at, c) ∷ cs) (i, f) (e, w, k) =
     ap₂ ◌++◌
-    (ap (map (words at (byte_of c))) (rows_same true t joints h s refl c i (placed_here true t joints h s at c w) w.present))
-    (rows_through_lem (next_state true t c) (next_joints true joints c) (next h c) (shown_here true t joints h s at c i w) cs f k)
+    (ap (map (words at (byte_of c))) (rows_same true t joints h s refl c i (placed_here true t joints h s at c w)))
+    (rows_through_lem (next_state true t c) (next_joints joints c) (next h c) (shown_here true t joints h s at c i w) cs f k)
 
--- and else as many
-pub rows_through_many : (t : State) (joints : JointTable) (h : Context) → Shows false t joints h → (cs : List (ℕ × Command)) → AllFit cs → Chained h (place_each h cs) → length (rows_through false t joints cs) ≡ length (all_rows (place_each h cs))
-unfolding rows_through all_rows
-rows_through_many t joints h s [] f k = refl
-rows_through_many t joints h s ((at, c) ∷ cs) (i, f) (e, w, k) =
-    let own = rows_from (next_state false t c) (next_sums false joints.sums c) c in
-    let ih = rows_through_many (next_state false t c) (next_joints false joints c) (next h c) (shown_here false t joints h s at c i w) cs f k in
+-- with room or without they are as many as are counted
+pub rows_counted : (room : Bool) (t : State) (joints : JointTable) (h : Context) → Shows room t joints h → (cs : List (ℕ × Command)) → AllFit cs → Chained h (place_each h cs) → row_counts cs ≡ length (all_rows (place_each h cs))
+unfolding all_rows
+rows_counted room t joints h s [] f k = refl
+rows_counted room t joints h s ((at, c) ∷ cs) (i, f) (e, w, k) =
     omega (
       arith,
-      ih,
-      length-append (map (words at (byte_of c)) own) (rows_through false (next_state false t c) (next_joints false joints c) cs),
+      rows_counted room (next_state room t c) (next_joints joints c) (next h c) (shown_here room t joints h s at c i w) cs f k,
       length-append (map (words at (byte_of c)) (rows_of h c)) (all_rows (place_each (next h c) cs)),
-      length-map own (words at (byte_of c)),
       length-map (rows_of h c) (words at (byte_of c)),
-      rows_count (next_state false t c) (next_sums false joints.sums c) c,
-      rows_as_many false t joints h s c (placed_here false t joints h s at c w) w.present,
+      rows_as_many room t joints h s c (placed_here room t joints h s at c w) w.present,
     )
 
 -- each row has eight words
@@ -143,10 +138,21 @@ pub eights_through : (room : Bool) (t : State) (joints : JointTable) (cs : List 
 unfolding rows_through
 eights_through room t joints [] = tt
 eights_through room t joints ((at, c) ∷ cs) =
-    eights_both (map (words at (byte_of c)) (rows_from (next_state room t c) (next_sums room joints.sums c) c)) (rows_through room (next_state room t c) (next_joints room joints c) cs)
-    (words_eight at (byte_of c) (rows_from (next_state room t c) (next_sums room joints.sums c) c)) (eights_through room (next_state room t c) (next_joints room joints c) cs)
+    eights_both (map (words at (byte_of c)) (rows_from (next_state room t c) (next_joints joints c) c)) (rows_through room (next_state room t c) (next_joints joints c) cs)
+    (words_eight at (byte_of c) (rows_from (next_state room t c) (next_joints joints c) c)) (eights_through room (next_state room t c) (next_joints joints c) cs)
 
 -- ---- the storeys of a block leave the state and the tables, and have the rows of its sets
+
+pub joints_kept : (joints : JointTable) (at : ℕ) (ss : List Storey) → joints_through joints (storeys_from at ss) ≡ joints
+unfolding next_joints
+joints_kept joints at [] = refl
+joints_kept joints at (s ∷ ss) = joints_kept joints (at + 24) ss
+
+-- one row each
+pub storeys_counted : (at : ℕ) (ss : List Storey) → row_counts (storeys_from at ss) ≡ length ss
+unfolding row_count
+storeys_counted at [] = refl
+storeys_counted at (s ∷ ss) = omega (arith, storeys_counted (at + 24) ss)
 
 module _ (room : Bool) (t : State) (joints : JointTable) where
   pub state_kept : (at : ℕ) (ss : List Storey) → state_through room t (storeys_from at ss) ≡ t
@@ -154,18 +160,17 @@ module _ (room : Bool) (t : State) (joints : JointTable) where
   state_kept at [] = refl
   state_kept at (s ∷ ss) = state_kept (at + 24) ss
 
-  pub joints_kept : (at : ℕ) (ss : List Storey) → joints_through room joints (storeys_from at ss) ≡ joints
-  unfolding next_given next_sums
-  joints_kept at [] = refl
-  joints_kept at (s ∷ ss) = joints_kept (at + 24) ss
+  pub set_rows_through : (at : ℕ) (ss : List Storey) → rows_through room t joints (storeys_from at ss) ≡ set_rows_running (running t.wall) at ss
+  unfolding next_state next_joints rows_through rows_from set_rows
+  set_rows_through at ss = by (running t.wall) refl at ss
+    where
+      by : (o : Option Wall) → running t.wall ≡ o → (at : ℕ) (ss : List Storey) → rows_through room t joints (storeys_from at ss) ≡ set_rows_running o at ss
+      by None e at [] = refl
+      by None e at (s ∷ ss) = rw e (by None e (at + 24) ss)
+      by (Some w) e at [] = refl
+      by (Some w) e at (s ∷ ss) = rw e (ap (λ (xs : List (List ℤ)). words at 7 (running_storey_row w s) ∷ xs) (by (Some w) e (at + 24) ss))
 
-  pub set_rows_through : (at : ℕ) (ss : List Storey) → rows_through room t joints (storeys_from at ss) ≡ set_rows t.wall at ss
-  unfolding next_state next_given next_sums rows_through rows_from set_rows
-  set_rows_through at [] = refl
-  set_rows_through at (s ∷ ss) =
-      ap (λ (xs : List (List ℤ)). words at 7 (storey_row_from (fraction t.wall.coefficient) t.wall.shear t.wall.resistance s) ∷ xs) (set_rows_through (at + 24) ss)
-
--- ---- commands in range keep the state and the tables sound, and the tables' lengths
+-- ---- commands in range keep the state and the joints sound
 
 abbrev pub AllIn : List (ℕ × Command) → Type 0
 AllIn [] = Unit {0}
@@ -179,31 +184,11 @@ pub sound_through : (room : Bool) (t : State) (cs : List (ℕ × Command)) → A
 sound_through room t [] i s = s
 sound_through room t ((at, c) ∷ cs) (r, i) s = sound_through room (next_state room t c) cs i (next_sound room t c s r)
 
-pub record TablesKept (room : Bool) (before after : JointTable) : Type 0 where
-  pub given : length after.given ≡ length before.given
-  pub sums : length after.sums ≡ length before.sums
-  pub sound : SoundSums room before.sums → SoundSums room after.sums
-
-pub tables_through : (room : Bool) (joints : JointTable) (cs : List (ℕ × Command)) → AllIn cs → TablesKept room joints (joints_through room joints cs)
-tables_through room joints [] i = record { given = refl; sums = refl; sound = λ s. s }
-tables_through room joints ((at, c) ∷ cs) (r, i) =
-    let k = tables_through room (next_joints room joints c) cs i in
-    record {
-      given = k.given ∙ given_length joints.given c;
-      sums = k.sums ∙ sums_length room joints.sums c;
-      sound = λ s. k.sound (sums_sound room joints.sums c s r);
-    }
+pub joints_sound_through : (joints : JointTable) (cs : List (ℕ × Command)) → AllIn cs → SoundJoints joints → SoundJoints (joints_through joints cs)
+joints_sound_through joints [] i s = s
+joints_sound_through joints ((at, c) ∷ cs) (r, i) s = joints_sound_through (next_joints joints c) cs i (joints_sound joints c s r)
 
 -- two rows at most for each
-pub rows_through_le : (room : Bool) (t : State) (joints : JointTable) (cs : List (ℕ × Command)) → length (rows_through room t joints cs) ≤ length cs + length cs
-unfolding rows_through
-rows_through_le room t joints [] = omega arith
-rows_through_le room t joints ((at, c) ∷ cs) =
-    let own = rows_from (next_state room t c) (next_sums room joints.sums c) c in
-    omega (
-      arith,
-      rows_through_le room (next_state room t c) (next_joints room joints c) cs,
-      length-append (map (words at (byte_of c)) own) (rows_through room (next_state room t c) (next_joints room joints c) cs),
-      length-map own (words at (byte_of c)),
-      rows_le (next_state room t c) (next_sums room joints.sums c) c,
-    )
+pub row_counts_le : (cs : List (ℕ × Command)) → row_counts cs ≤ length cs + length cs
+row_counts_le [] = omega arith
+row_counts_le ((at, c) ∷ cs) = omega (arith, row_counts_le cs, count_le c)

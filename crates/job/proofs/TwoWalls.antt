@@ -1,10 +1,12 @@
 -- A job with two walls that is refused at its last storey, by computation: the commands that the walk reaches, and the running values
 -- that it carries at each storey, the refused one too. So the law of the latest wall speaks of jobs that are refused. 02, No. 4.
 -- Assumes nothing.
+use mathlib.Core.Bool.{true, false}
 use mathlib.Core.Path.{◌≡◌, refl}
 use mathlib.Core.List.{List, [], ◌∷◌, ◌++◌, map}
 use Prim.Native.Nat.{ℕ}
 use lib.ListN.{take, replicate}
+use Rattle.std.specs.Prelude.{Option, Some}
 use Rattle.exact.specs.Quotient.{up}
 use Rattle.exact.specs.Fraction.{smaller}
 use Rattle.coefficient.specs.Coefficient.{coefficient_of, cap_governs}
@@ -18,7 +20,7 @@ use Rattle.layout.specs.Operands.{read_operands}
 use Rattle.format.specs.Commands.{command_of, in_range, all_in_range, related}
 use Rattle.format.specs.Reading.{command_at}
 use Rattle.context.specs.Context.{next, absent}
-use Rattle.context.specs.Running.{start_state, next_state, with_settings, with_wall, with_ground}
+use Rattle.context.specs.Running.{start_state, next_state}
 use Rattle.blocks.specs.FileCommands.{file_command_at, width_at}
 use Rattle.job.specs.Faults.{too_many, misplaced, command_tests, tests_at}
 use Rattle.job.specs.Placed.{Placed, placed_all, refused, listed_by, listed, placed}
@@ -60,19 +62,19 @@ abbrev job : List ℕ
 job = settings ++ first ++ storey 1 1 ++ joint ++ storey 1 2 ++ second ++ storey 1 1 ++ storey 3 2
 
 -- the running values after so many of the commands reached
-abbrev carried : ℕ → Wall
+abbrev carried : ℕ → Option Wall
 carried n = wall_after (take n (placed_all (reached job)))
 
 pub record TwoWalls : Type 0 where
   pub stopped : placed job ≡ refused 5 146
   pub offsets : map (λ (p : Placed). p.offset) (placed_all (reached job)) ≡ 0 ∷ 7 ∷ 32 ∷ 57 ∷ 71 ∷ 96 ∷ 121 ∷ []
-  pub first_storey : carried 2 ≡ record { coefficient = record { num = 6500; den = 2000 }; shear = 293; resistance = 50; governs = 0 }
+  pub first_storey : carried 2 ≡ Some (record { coefficient = record { num = 6500; den = 2000 }; shear = 293; resistance = 50; governs = false })
   pub behind_a_joint : carried 4 ≡ carried 2
-  pub second_wall : carried 6 ≡ record { coefficient = record { num = 350; den = 100 }; shear = 315; resistance = 50; governs = 1 }
+  pub second_wall : carried 6 ≡ Some (record { coefficient = record { num = 350; den = 100 }; shear = 315; resistance = 50; governs = true })
   pub at_fault : carried 7 ≡ carried 6
 
 pub two_walls : TwoWalls
-unfolding up smaller coefficient_of cap_governs wall_of within within_signed number number_after signed32 bits32 width form_in_range known known_in forms_of forms_in width_of_all operands_width read_operands command_of in_range all_in_range related command_at next absent start_state next_state with_settings with_wall with_ground too_many misplaced tests_at command_tests width_at file_command_at listed_by listed placed reached_from reached
+unfolding up smaller coefficient_of cap_governs wall_of within within_signed number number_after signed32 bits32 width form_in_range known known_in forms_of forms_in width_of_all operands_width read_operands command_of in_range all_in_range related command_at next absent start_state next_state too_many misplaced tests_at command_tests width_at file_command_at listed_by listed placed reached_from reached
 two_walls =
     record {
       stopped = refl;

@@ -1,8 +1,7 @@
 -- The commands before a place in a job: the latest of each kind among them, and those of the file that end at or before an offset. 02,
 -- No. 1: "Let the latest definition hold for every later member, while members already met keep the figures they had"; No. 4: "those
 -- that document 01 gives for the latest base command".
-use Rattle.std.specs.Prelude.{cond, List, [], ◌∷◌, ℕ, ◌+◌, eqb, leb}
-use Rattle.std.proofs.Math.Option.{Option, none, some}
+use Rattle.std.specs.Prelude.{cond, List, [], ◌∷◌, ℕ, ◌+◌, eqb, leb, Option, None, Some}
 use Rattle.coefficient.specs.declared.Settings.{Settings}
 use Rattle.members.specs.declared.Joint.{Joint}
 use Rattle.walls.specs.declared.WallBase.{WallBase}
@@ -15,58 +14,58 @@ use Rattle.job.specs.Placed.{Placed, Entry}
 
 -- the first of two that is there
 abbrev pub or_else : {A : Type 0} → Option A → Option A → Option A
-or_else (some a) other = some a
-or_else none other = other
+or_else (Some a) other = Some a
+or_else None other = other
 
 -- the latest among these commands, by what each of them gives: that of the later ones, else that of the first
 abbrev pub latest : {A : Type 0} → (Command → Option A) → List Placed → Option A
-latest gives [] = none
+latest gives [] = None
 latest gives (p ∷ ps) = or_else (latest gives ps) (gives p.command)
 
 abbrev pub settings_in : Command → Option Settings
-settings_in finish = none
-settings_in (settings s) = some s
-settings_in (joint id j) = none
-settings_in (column c) = none
-settings_in (beam b) = none
-settings_in (hingeless id1 id2 m) = none
-settings_in (wall_base b) = none
-settings_in (storey s) = none
-settings_in (soil s) = none
-settings_in (footing f) = none
-settings_in (detail d) = none
+settings_in finish = None
+settings_in (settings s) = Some s
+settings_in (joint id j) = None
+settings_in (column c) = None
+settings_in (beam b) = None
+settings_in (hingeless id1 id2 m) = None
+settings_in (wall_base b) = None
+settings_in (storey s) = None
+settings_in (soil s) = None
+settings_in (footing f) = None
+settings_in (detail d) = None
 
 -- id and sums of a joint; another command has none
 abbrev pub joint_in : Command → Option (ℕ × Joint)
-joint_in finish = none
-joint_in (settings s) = none
-joint_in (joint id j) = some (id, j)
-joint_in (column c) = none
-joint_in (beam b) = none
-joint_in (hingeless id1 id2 m) = none
-joint_in (wall_base b) = none
-joint_in (storey s) = none
-joint_in (soil s) = none
-joint_in (footing f) = none
-joint_in (detail d) = none
+joint_in finish = None
+joint_in (settings s) = None
+joint_in (joint id j) = Some (id, j)
+joint_in (column c) = None
+joint_in (beam b) = None
+joint_in (hingeless id1 id2 m) = None
+joint_in (wall_base b) = None
+joint_in (storey s) = None
+joint_in (soil s) = None
+joint_in (footing f) = None
+joint_in (detail d) = None
 
 -- the joint that a command gives under an id
 abbrev pub given_under : ℕ → Option (ℕ × Joint) → Option Joint
-given_under id none = none
-given_under id (some (i, j)) = cond (eqb id i) (some j) none
+given_under id None = None
+given_under id (Some (i, j)) = cond (eqb id i) (Some j) None
 
 abbrev pub base_in : Command → Option WallBase
-base_in finish = none
-base_in (settings s) = none
-base_in (joint id j) = none
-base_in (column c) = none
-base_in (beam b) = none
-base_in (hingeless id1 id2 m) = none
-base_in (wall_base b) = some b
-base_in (storey s) = none
-base_in (soil s) = none
-base_in (footing f) = none
-base_in (detail d) = none
+base_in finish = None
+base_in (settings s) = None
+base_in (joint id j) = None
+base_in (column c) = None
+base_in (beam b) = None
+base_in (hingeless id1 id2 m) = None
+base_in (wall_base b) = Some b
+base_in (storey s) = None
+base_in (soil s) = None
+base_in (footing f) = None
+base_in (detail d) = None
 
 abbrev pub latest_settings : List Placed → Option Settings
 latest_settings ps = latest settings_in ps

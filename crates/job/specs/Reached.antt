@@ -59,7 +59,7 @@ abbrev pub StandsAfter : Bool → List ℕ → JointTable → List ℤ → List 
 StandsAfter room job joints memory es =
     (n : ℕ) →
     walk_from room (length es + n) job first_place joints memory
-    ≡ walk_from room n job (place_after room first_place es) (joints_through room joints (located (placed_all es))) (stored_all memory 0 (all_rows (placed_all es)))
+    ≡ walk_from room n job (place_after room first_place es) (joints_through joints (located (placed_all es))) (stored_all memory 0 (all_rows (placed_all es)))
 
 -- ---- behind a block
 

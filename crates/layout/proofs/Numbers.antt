@@ -1,21 +1,22 @@
 -- A number of n bytes is below 256 ^ n; the i32 of 32 bits and the 32 bits of an i32 are each the other's inverse. Assumes nothing.
 use mathlib.Core.Bool.{Bool, true, false, cond}
-use mathlib.Core.List.{List, [], ◌∷◌}
-use mathlib.Core.Logic.{◌⊎◌, inl, inr}
+use mathlib.Core.List.{List, [], ◌∷◌, ◌++◌}
 use mathlib.Core.Path.{◌≡◌, refl, ap, sym, ◌∙◌}
 use Prim.Native.Nat.{ℕ, zero, suc, ◌+◌, ◌-◌, ◌*◌, ◌^◌, ◌≤◌, ◌<◌}
 use native.Mathlib.Nat.{add-zero, add-suc, suc-add, zero-add, pow-suc, pow-le-pow_right}
-use native.Mathlib.Numerals.{towards_suc}
 use native.Mathlib.Omega.{arith}
 use lib.Dec.{ltb, lit<}
-use lib.IntN.{ℤ, pos, negsuc, ◌-ℤ◌}
+use lib.IntN.{ℤ, pos, negsuc}
 use lib.ListN.{length, get_or, take, drop, length-take}
 use lib.Seq.{get_or-drop, drop-cons}
-use mir.Syntax.{w32, w64}
+use Rattle.std.proofs.Common.{add-one}
+use Rattle.std.proofs.lemmas.List.{drop_all}
+use mir.Syntax.{w32}
 use lib.Signed.{mag}
-use mir.Val.{SFits, to_z, of_z}
-use mir.Facts.{to_z_pos, to_z-of_z}
+use mir.Val.{SFits, sel, to_z, of_z}
+use mir.Facts.{to_z-of_z}
 use borrow.Author.Tests.{lt-ltb, le-ltb, ltb-true, ltb-false}
+use Rattle.std.specs.Int.{from_be_bytes}
 use Rattle.layout.specs.Number.{number_after, number, signed32, bits32}
 
 -- ---- unsigned
@@ -49,36 +50,45 @@ number_take_below n bytes b =
     let short : length (take n bytes) ≤ n = rw length-take (omega arith) in
     omega (arith, number_below (take n bytes) (bytes_take n bytes b), pow-le-pow_right (lit< {m = 0} {n = 256} tt) short)
 
--- ---- numbers of 1, 2 and 4 bytes at an offset
-
-next : (n : ℕ) (bytes : List ℕ) (from : ℕ) → from < length bytes → take (suc n) (drop from bytes) ≡ get_or bytes from 0 ∷ take n (drop (suc from) bytes)
-next n bytes from h = rw (drop-cons bytes from 0 h)
+-- ---- a byte as a number
 
 pub one_byte : (bytes : List ℕ) (from : ℕ) → from < length bytes → get_or bytes from 0 ≡ number (take 1 (drop from bytes))
 unfolding number number_after
-one_byte bytes from h = rw (next 0 bytes from h) (omega arith)
+one_byte bytes from h = rw (drop-cons bytes from 0 h) (omega arith)
 
-pub two_bytes : (bytes : List ℕ) (from : ℕ) → from + 2 ≤ length bytes → get_or bytes from 0 * 256 + get_or bytes (from + 1) 0 ≡ number (take 2 (drop from bytes))
+-- ---- a number of at most 4 bytes, put behind zeros into a word of 4
+
+pub word_number : (bytes later : List ℕ) → length bytes ≤ 4 → from_be_bytes w32 (take (4 - length bytes) (0 ∷ 0 ∷ 0 ∷ 0 ∷ []) ++ (bytes ++ later)) ≡ number bytes
 unfolding number number_after
-two_bytes bytes from h =
-    simp towards_suc (rw (next 1 bytes from (omega arith), next 0 bytes (suc from) (omega arith)) (omega arith))
+word_number [] later h = refl
+word_number (a ∷ []) later h = omega arith
+word_number (a ∷ b ∷ []) later h = omega arith
+word_number (a ∷ b ∷ c ∷ []) later h = omega arith
+word_number (a ∷ b ∷ c ∷ d ∷ []) later h = omega arith
+word_number (a ∷ b ∷ c ∷ d ∷ e ∷ bytes) later h = absurd (more (length bytes) h)
+  where
+    more : (n : ℕ) → suc (suc (suc (suc (suc n)))) ≤ 4 → ⊥
+    more n h = omega arith
 
-pub four_bytes : (bytes : List ℕ) (from : ℕ) → from + 4 ≤ length bytes → ((get_or bytes from 0 * 256 + get_or bytes (from + 1) 0) * 256 + get_or bytes (from + 2) 0) * 256 + get_or bytes (from + 3) 0 ≡ number (take 4 (drop from bytes))
-unfolding number number_after
-four_bytes bytes from h =
-    simp towards_suc
-    (rw (
-      next 3 bytes from (omega arith),
-      next 2 bytes (suc from) (omega arith),
-      next 1 bytes (suc (suc from)) (omega arith),
-      next 0 bytes (suc (suc (suc from))) (omega arith),
-    ) (omega arith))
+-- ---- a number byte by byte
 
--- a width of 1, 2 or 4 that is neither 1 nor 2
-pub last_width : (w : ℕ) → (w ≡ 1) ⊎ ((w ≡ 2) ⊎ (w ≡ 4)) → (w ≡ 1 → ⊥) → (w ≡ 2 → ⊥) → w ≡ 4
-last_width w (inl e) p q = absurd (p e)
-last_width w (inr (inl e)) p q = absurd (q e)
-last_width w (inr (inr e)) p q = e
+pub next_small : (i v b : ℕ) → i < 4 → v < 256 ^ i → b < 256 → (v * 256 + b < 256 ^ (i + 1)) × (v * 256 + b < 4294967296)
+next_small zero v b l h g = (omega arith, omega arith)
+next_small (suc zero) v b l h g = (omega arith, omega arith)
+next_small (suc (suc zero)) v b l h g = (omega arith, omega arith)
+next_small (suc (suc (suc zero))) v b l h g = (omega arith, omega arith)
+next_small (suc (suc (suc (suc i)))) v b l h g = absurd (more i l)
+  where
+    more : (n : ℕ) → suc (suc (suc (suc n))) < 4 → ⊥
+    more n h = omega arith
+
+pub next_after : (v i : ℕ) (bytes : List ℕ) → i < length bytes → number_after v (drop i bytes) ≡ number_after (v * 256 + get_or bytes i 0) (drop (i + 1) bytes)
+unfolding number_after
+next_after v i bytes l = rw (add-one, drop-cons bytes i 0 l)
+
+pub none_after : (v i : ℕ) (bytes : List ℕ) → length bytes ≤ i → number_after v (drop i bytes) ≡ v
+unfolding number_after
+none_after v i bytes l = rw (drop_all i bytes l)
 
 -- ---- signed
 
@@ -106,24 +116,16 @@ signed_fits x h = go (ltb x 2147483648) (ltb-true x 2147483648) (ltb-false x 214
     go true p q = record { sfits = p refl }
     go false p q = let l = q refl in record { sfits = omega arith }
 
--- ---- the steps of `signed`
-
-pub wide_fits : (x : ℕ) → x < 4294967296 → to_z w64 x ≡ pos x
-wide_fits x h = to_z_pos w64 {n = x} (omega arith)
-
-pub signed_low : (x : ℕ) → x < 2147483648 → pos x ≡ signed32 x
+-- the library's i32 of 32 bits is that of the specification
+pub signed_is : (x : ℕ) → to_z w32 x ≡ signed32 x
 unfolding signed32
-signed_low x h = rw (lt-ltb x 2147483648 h)
+signed_is x = go (ltb x 2147483648)
+  where
+    go : (t : Bool) → sel t (pos x) (negsuc (4294967296 - suc x)) ≡ cond t (pos x) (negsuc (4294967295 - x))
+    go true = refl
+    go false = ap negsuc (omega arith)
 
-pub signed_high : (x : ℕ) → 2147483648 ≤ x → x < 4294967296 → pos x -ℤ pos 4294967296 ≡ signed32 x
-unfolding signed32
-signed_high x h k =
-    rw (le-ltb x 2147483648 h, lt-ltb x 4294967296 k) (ap negsuc (omega arith))
-
-pub low_fits : (x : ℕ) → x < 2147483648 → SFits w32 (pos x)
-low_fits x h = record { sfits = h }
-
--- the result of `signed` at a call
+-- a signed result of a call
 pub returned : {z : ℤ} → mag z < 2147483648 → to_z w32 (of_z w32 z) ≡ z
 returned {z = z} h = to_z-of_z {w = w32} {z = z} (record { sfits = h })
 

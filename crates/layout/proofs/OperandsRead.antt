@@ -2,12 +2,13 @@
 use mathlib.Core.List.{List, [], ◌∷◌}
 use mathlib.Core.Logic.{◌⊎◌, inl, inr}
 use mathlib.Core.Path.{◌≡◌, refl, ap, ◌∙◌}
-use Prim.Native.Nat.{ℕ, zero, suc, ◌+◌, ◌^◌, ◌≤◌, ◌<◌}
+use Prim.Native.Nat.{ℕ, zero, suc, ◌+◌, ◌-◌, ◌^◌, ◌≤◌, ◌<◌}
 use native.Mathlib.Numerals.{add-one}
 use native.Mathlib.Nat.{not-suc-le-zero}
 use native.Mathlib.Omega.{arith}
 use lib.ListN.{length, get_or, take, drop}
-use lib.Seq.{drop-drop}
+use lib.Seq.{drop-drop, take-take}
+use Rattle.std.proofs.lemmas.List.{drop-take}
 use Rattle.layout.specs.declared.Form.{Form}
 use Rattle.layout.specs.declared.Form.TheVariants.{Id, Behaviour, Overstrength, MemberLength, Moment, Force, SignedMoment, SignedForce, WallLength, Inertia, SoilKind, SoilValue, YesNo, Side, FootingFlags, Place, Depth, Ductility}
 use Rattle.layout.specs.Number.{number}
@@ -81,6 +82,14 @@ width_is Place = inl refl
 width_is Depth = inr (inl refl)
 width_is Ductility = inr (inl refl)
 
+pub width_most : (f : Form) → width f ≤ 4
+width_most f = by (width_is f)
+  where
+    by : {w : ℕ} → (w ≡ 1) ⊎ ((w ≡ 2) ⊎ (w ≡ 4)) → w ≤ 4
+    by (inl e) = omega arith
+    by (inr (inl e)) = omega arith
+    by (inr (inr e)) = omega arith
+
 pub read_length : (fs : List Form) (bytes : List ℕ) → length (read_operands fs bytes) ≡ length fs
 unfolding read_operands
 read_length [] bytes = refl
@@ -110,3 +119,20 @@ operands_fit job start b = read_below (forms_of (byte_at job start)) (drop (star
 pub operand_at : (byte : ℕ) (job : List ℕ) (from i : ℕ) → i < length (forms_of byte) → operand byte job from i ≡ at (read_operands (forms_of byte) (drop from job)) i
 unfolding operand
 operand_at byte job from i l = rw (read_at (forms_of byte) (drop from job) i l, drop-drop (offset_of (forms_of byte) i) from job)
+
+-- an operand among a part of the bytes
+part : (w off k : ℕ) (bytes : List ℕ) → off + k ≤ w → take k (drop off (take w bytes)) ≡ take k (drop off bytes)
+part w off k bytes h =
+    let e : w ≡ off + (w - off) = omega arith in
+    ap (λ (n : ℕ). take k (drop off (take n bytes))) e
+    ∙ ap (λ (l : List ℕ). take k l) (drop-take off (w - off) bytes)
+    ∙ take-take k (w - off) (drop off bytes) (omega arith)
+
+pub operand_within : (byte : ℕ) (job : List ℕ) (from at w i : ℕ) → at + operands_width byte ≤ w → i < length (forms_of byte) → operand byte (take w (drop from job)) at i ≡ operand byte job (from + at) i
+unfolding operand
+operand_within byte job from at w i h l =
+    let off = offset_of (forms_of byte) i in
+    let k = width (get_or (forms_of byte) i Id) in
+    let e : from + (at + off) ≡ from + at + off = omega arith in
+    let o : at + off + k ≤ w = omega (arith, offset_in_command byte i l) in
+    rw (part w (at + off) k (drop from job) o, drop-drop (at + off) from job, e)

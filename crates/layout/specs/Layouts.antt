@@ -1,7 +1,9 @@
 -- The layout of each command: its byte, then its operands in order. 01, "Job commands".
-use Rattle.std.specs.Prelude.{Bool, true, false, cond, List, [], ◌∷◌, ℕ, ◌+◌, eqb}
+use Rattle.std.specs.Prelude.{Bool, true, false, cond, List, [], ◌∷◌, ℕ, ◌+◌, eqb, Option, Some, None}
 use Rattle.layout.specs.declared.Form.{Form}
 use Rattle.layout.specs.declared.Form.TheVariants.{Id, Behaviour, Overstrength, MemberLength, Moment, Force, SignedMoment, SignedForce, WallLength, Inertia, SoilKind, SoilValue, YesNo, Side, FootingFlags, Place, Depth, Ductility}
+use Rattle.layout.specs.declared.Kind.{Kind}
+use Rattle.layout.specs.declared.Kind.TheVariants.{Finish, Settings, Joint, Column, Beam, Hingeless, WallBase, Storey, Soil, Footing, Detail}
 use Rattle.layout.specs.Forms.{width}
 
 abbrev pub layouts : List (ℕ × List Form)
@@ -60,3 +62,35 @@ width_of_all (f ∷ fs) = width f + width_of_all fs
 unfoldable pub operands_width : ℕ → ℕ
 unfolding forms_of width_of_all
 operands_width byte = width_of_all (forms_of byte)
+
+-- ---- the kinds of commands
+
+-- the byte of each
+abbrev pub byte_of_kind : Kind → ℕ
+byte_of_kind Finish = 0
+byte_of_kind Settings = 1
+byte_of_kind Joint = 2
+byte_of_kind Column = 3
+byte_of_kind Beam = 4
+byte_of_kind Hingeless = 5
+byte_of_kind WallBase = 6
+byte_of_kind Storey = 7
+byte_of_kind Soil = 8
+byte_of_kind Footing = 9
+byte_of_kind Detail = 10
+
+-- the kind of a byte; a byte that is no command's has none
+unfoldable pub kind_of : ℕ → Option Kind
+kind_of byte =
+    cond (eqb byte 0) (Some Finish)
+    (cond (eqb byte 1) (Some Settings)
+    (cond (eqb byte 2) (Some Joint)
+    (cond (eqb byte 3) (Some Column)
+    (cond (eqb byte 4) (Some Beam)
+    (cond (eqb byte 5) (Some Hingeless)
+    (cond (eqb byte 6) (Some WallBase)
+    (cond (eqb byte 7) (Some Storey)
+    (cond (eqb byte 8) (Some Soil)
+    (cond (eqb byte 9) (Some Footing)
+    (cond (eqb byte 10) (Some Detail)
+    None))))))))))

@@ -1,5 +1,5 @@
 -- Numbers in a file: big-endian, unsigned, and an i32 by its 32 bits. 01, "Job commands".
-use Rattle.std.specs.Prelude.{cond, List, [], ◌∷◌, ◌⊎◌, ◌≡◌, ℕ, ◌+◌, ◌-◌, ◌*◌, ◌≤◌, ◌<◌, ltb, length, get_or, ℤ, pos, negsuc}
+use Rattle.std.specs.Prelude.{cond, List, [], ◌∷◌, ◌≡◌, ℕ, ◌+◌, ◌-◌, ◌*◌, ◌≤◌, ltb, length, ℤ, pos, negsuc}
 
 -- the number so far, then the bytes that follow it
 unfoldable pub number_after : ℕ → List ℕ → ℕ
@@ -18,13 +18,3 @@ signed32 x = cond (ltb x 2147483648) (pos x) (negsuc (4294967295 - x))
 unfoldable pub bits32 : ℤ → ℕ
 bits32 (pos n) = n
 bits32 (negsuc n) = 4294967295 - n
-
--- a number of 1, 2 or 4 bytes at an offset of a job
-pub record InJob (job : List ℕ) (at width : ℕ) : Type 0 where
-  pub inside : at + width ≤ length job
-  pub bytes : (width ≡ 1) ⊎ ((width ≡ 2) ⊎ (width ≡ 4))
-
--- the byte at an offset
-pub record ByteAt (job : List ℕ) (at byte : ℕ) : Type 0 where
-  pub is : byte ≡ get_or job at 0
-  pub below : byte < 256

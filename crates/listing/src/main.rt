@@ -1,14 +1,12 @@
 // The listing program: a job on standard input, its listing on standard output. 01, "Figures to hold to".
 #![tactic(auto)]
 
+use console::Program;
+
 fn main(rt: HostRuntime) {
-    console::print(
-        &rt,
-        &mut rt.stdin(),
-        &mut rt.stderr(),
-        false,
-        b"listing: standard input",
-        b"listing: standard output",
-        b"listing: takes no argument; a job is read from standard input: listing < FILE\n",
-    );
+    let listing = Program {
+        name: "listing",
+        paged: false,
+    };
+    listing.print(&rt, &mut rt.stdin(), &mut rt.stderr());
 }

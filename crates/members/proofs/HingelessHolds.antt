@@ -19,7 +19,7 @@ use Rattle.claims.proofs.Rounded.{operand_strength}
 use Rattle.members.specs.declared.Joint.{Joint}
 use Rattle.members.specs.declared.Hingeless.{Hingeless}
 use Rattle.members.specs.Hingeless.{joint_coefficient, rounded_shear, exact_shear, exact_upper, exact_lower, hingeless_amount, hingeless_row, hingeless_claims, HingelessRange}
-use Rattle.members.proofs.Shears.{upper_check, lower_check, shears_hold}
+use Rattle.claims.proofs.UpperLower.{upper_check, lower_check, shears_hold}
 
 -- ---- D rounded: p/d is a·ME of an end, m that rounded up
 
@@ -80,9 +80,9 @@ module _ (a b : Fraction) (x y l : ℕ) (pa : Proper a) (pb : Proper b) (pl : 0 
 -- ---- the checks: V0 plus x, and minus V0 plus x, where x is D and n is D rounded
 
 module _ (z : ℤ) (x a : Fraction) (n s : ℕ) (p : Proper x) (pa : Proper a) (below-n : x ≤F whole n) (under-n : whole n <F (x +F a)) where
-  upper_check_lem : CheckHolds (upper_check (z +ℤ pos n) (whole_s z +S signed x) a s)
+  upper_check_lem : CheckHolds (upper_check 1 (z +ℤ pos n) (whole_s z +S signed x) a s)
   upper_check_lem =
-      check_holds (upper_check (z +ℤ pos n) (whole_s z +S signed x) a s) (omega arith) pa
+      check_holds (upper_check 1 (z +ℤ pos n) (whole_s z +S signed x) a s) (omega arith) pa
       (parts_not_below (above z) (below z) (above (z +ℤ pos n)) (below (z +ℤ pos n)) n x parts below-n)
       (λ g. parts_excess (above z) (below z) (above (z +ℤ pos n)) (below (z +ℤ pos n)) n x parts a under-n)
       (operand_strength (pos s)) (λ k. tt)
@@ -90,10 +90,10 @@ module _ (z : ℤ) (x a : Fraction) (n s : ℕ) (p : Proper x) (pa : Proper a) (
       parts : above (z +ℤ pos n) + below z ≡ below (z +ℤ pos n) + (above z + n)
       parts = omega (arith, +ℤ_law z (pos n))
 
-  lower_check_lem : CheckHolds (lower_check (z -ℤ pos n) (whole_s z -S signed x) a s)
+  lower_check_lem : CheckHolds (lower_check 1 (z -ℤ pos n) (whole_s z -S signed x) a s)
   lower_check_lem =
       let w = neg_ℤ (z -ℤ pos n) in
-      check_holds (lower_check (z -ℤ pos n) (whole_s z -S signed x) a s) (omega arith) pa
+      check_holds (lower_check 1 (z -ℤ pos n) (whole_s z -S signed x) a s) (omega arith) pa
       (parts_not_below (below z) (above z) (above w) (below w) n x parts below-n)
       (λ g. parts_excess (below z) (above z) (above w) (below w) n x parts a under-n)
       (operand_strength (pos s)) (λ k. tt)

@@ -1,7 +1,6 @@
 -- What callers cite: the claims of each row hold, and how large the words of each row are.
 pub mod Steps
 pub mod Rows
-pub mod Shears
 pub mod ColumnHolds
 pub mod BeamHolds
 pub mod HingelessHolds

@@ -6,14 +6,20 @@ use Rattle.coefficient.specs.declared.Quotient.{Quotient}
 pub record ShearRange (k S l q VE d : ℕ) : Type 0 where
   pub factor : k ≤ 1400
   pub sum : S ≤ 200000000
+  pub length_least : 0 < l
   pub length : l ≤ 100000
   pub behaviour : q ≤ 400
   pub shear : VE ≤ 100000000
+  pub divisor_least : 0 < d
   pub divisor : d ≤ 120
+
+-- what it is then
+pub record ShearFits (D : Quotient) : Type 0 where
+  pub positive : 0 < D.den
+  pub num : D.num ≤ 280000000000
+  pub den : D.den ≤ 100000
 
 -- V0 plus or minus D
 pub record AddRange (V0 : ℤ) (D : Quotient) : Type 0 where
   pub nonseismic : nat_abs V0 ≤ 100000000
-  pub num : D.num ≤ 280000000000
-  pub den : D.den ≤ 100000
-  pub positive : 0 < D.den
+  pub shear : ShearFits D

@@ -12,12 +12,14 @@ ghost use Rattle.members.specs.Column.{column_row, ColumnRange};
 ghost use Rattle.members.specs.Beam.{beam_row, BeamRange};
 ghost use Rattle.members.specs.Hingeless.{end_moment, rounded_shear, hingeless_row, HingelessRange};
 ghost use Rattle.members.specs.Detail.{detail_row, DetailRange};
-ghost use Rattle.members.specs.Steps.{ShearRange, AddRange};
+ghost use Rattle.members.specs.Steps.{ShearRange, ShearFits, AddRange};
 
 use claims::Row;
 use coefficient::{Limited, Quotient, Settings};
+use exact::Sum;
 
-// R1, R2 of the plus and of the minus direction, VE the seismic shear, VR the shear strength.
+// R1, R2 of the plus and of the minus direction, VE the seismic shear, VR the shear strength. The range of this struct and of each below is
+// no ghost field: one contract asks for it, or two.
 #[derive(Clone, Copy)]
 pub struct Column {
     pub length: u32,
@@ -29,7 +31,8 @@ pub struct Column {
     pub strength: u32,
 }
 
-// As a column, with V0, the shear of the non-seismic loads.
+// As a column, with V0, the shear of the non-seismic loads. The four resistances are no struct of their own: they are operands, one by one,
+// as C's callers of `write` give them.
 #[derive(Clone, Copy)]
 pub struct Beam {
     pub length: u32,
@@ -70,12 +73,8 @@ pub struct Detail {
     pub lap: u32,
 }
 
-// The smaller of two.
-fn lesser(a: u32, b: u32) -> u32
-    ensures { result ≡ min a b }
-{
-    if a < b { a } else { b }
-}
+// The place of a detail at the wall base, where a lap is a fault.
+const WALL_BASE: u32 = 2;
 
 // The smaller of factor·S/length, the shear with hinges at both ends, and q·VE/divisor, the cap; and whether the cap governs.
 fn capacity_shear(
@@ -87,16 +86,17 @@ fn capacity_shear(
     divisor: u64,
 ) -> Limited
     requires { ShearRange factor sum length behaviour shear divisor }
+    ensures range { ShearFits result.value }
     ensures value { fraction result.value ≡ smaller (ratio (factor * sum) length) (ratio (behaviour * shear) divisor) }
     ensures governs { result.governs ≡ lt_f (ratio (behaviour * shear) divisor) (ratio (factor * sum) length) }
 {
     coefficient::smaller(
         Quotient {
             num: factor * sum,
-            den: length as u64,
+            den: u64::from(length),
         },
         Quotient {
-            num: (behaviour as u64) * (shear as u64),
+            num: u64::from(behaviour) * u64::from(shear),
             den: divisor,
         },
     )
@@ -107,11 +107,7 @@ fn upper_shear(nonseismic: i32, shear: Quotient) -> i64
     requires { AddRange nonseismic shear }
     ensures { result ≡ up_s (whole_s nonseismic +S signed (fraction shear)) }
 {
-    exact::sum_up(
-        nonseismic as i64,
-        claims::word(shear.num),
-        claims::word(shear.den),
-    )
+    Sum::new(i64::from(nonseismic), shear.num as i64, shear.den).up()
 }
 
 // V0 − D, down.
@@ -119,29 +115,14 @@ fn lower_shear(nonseismic: i32, shear: Quotient) -> i64
     requires { AddRange nonseismic shear }
     ensures { result ≡ down_s (whole_s nonseismic -S signed (fraction shear)) }
 {
-    exact::sum_down(
-        nonseismic as i64,
-        0 - claims::word(shear.num),
-        claims::word(shear.den),
-    )
-}
-
-// 1 for yes, else 0: bit 1, where a shear exceeds VR, and the words that tell whether the cap governs.
-fn told(yes: bool) -> i64
-    ensures { result ≡ pos (flag 1 yes) }
-{
-    claims::word(claims::flagged(1, yes))
+    Sum::new(i64::from(nonseismic), -(shear.num as i64), shear.den).down()
 }
 
 // Bit 1 where upper or minus lower exceeds VR.
 fn shears_verdict(upper: i64, lower: i64, strength: u32) -> i64
     ensures { result ≡ pos (flag 1 (lt_z (pos strength) upper || lt_z (pos strength) (neg_ℤ lower))) }
 {
-    let limit = claims::word(strength as u64);
-    if limit < upper {
-        return 1;
-    }
-    if lower < 0 - limit { 1 } else { 0 }
+    i64::from(claims::either_exceeds(upper, lower, strength))
 }
 
 // B.1: one shear, up, for the larger sum of both directions.
@@ -149,20 +130,19 @@ pub fn column_row(behaviour: u32, c: Column) -> Row
     requires { ColumnRange behaviour c }
     ensures { result ≡ column_row behaviour c }
 {
-    let sum = exact::larger(
-        (c.plus1 as u64) + (c.plus2 as u64),
-        (c.minus1 as u64) + (c.minus2 as u64),
-    );
+    let plus = u64::from(c.plus1) + u64::from(c.plus2);
+    let minus = u64::from(c.minus1) + u64::from(c.minus2);
+    let sum = plus.max(minus);
     let shear = capacity_shear(1400, sum, c.length, behaviour, c.shear, 100);
-    let demand = exact::ceil_div_unsigned(shear.value.num, shear.value.den);
-    let strength = c.strength as u64;
+    let demand = shear.value.num.div_ceil(shear.value.den);
+    let strength = u64::from(c.strength);
     Row {
         word2: claims::word(demand),
-        word3: claims::word(strength),
+        word3: i64::from(c.strength),
         word4: 0,
         word5: 0,
-        word6: told(shear.governs),
-        verdict: told(strength < demand),
+        word6: i64::from(shear.governs),
+        verdict: i64::from(strength < demand),
     }
 }
 
@@ -171,8 +151,8 @@ pub fn beam_row(behaviour: u32, b: Beam) -> Row
     requires { BeamRange behaviour b }
     ensures { result ≡ beam_row behaviour b }
 {
-    let plus = (b.plus1 as u64) + (b.plus2 as u64);
-    let minus = (b.minus1 as u64) + (b.minus2 as u64);
+    let plus = u64::from(b.plus1) + u64::from(b.plus2);
+    let minus = u64::from(b.minus1) + u64::from(b.minus2);
     let added = capacity_shear(1200, plus, b.length, behaviour, b.shear, 120);
     let taken = capacity_shear(1200, minus, b.length, behaviour, b.shear, 120);
     let upper = upper_shear(b.nonseismic, added.value);
@@ -180,9 +160,9 @@ pub fn beam_row(behaviour: u32, b: Beam) -> Row
     Row {
         word2: upper,
         word3: lower,
-        word4: claims::word(b.strength as u64),
-        word5: told(added.governs),
-        word6: told(taken.governs),
+        word4: i64::from(b.strength),
+        word5: i64::from(added.governs),
+        word6: i64::from(taken.governs),
         verdict: shears_verdict(upper, lower, b.strength),
     }
 }
@@ -191,11 +171,12 @@ pub fn beam_row(behaviour: u32, b: Beam) -> Row
 fn end_moment(settings: Settings, j: Joint, moment: u32) -> u64
     requires range { CoefficientRange settings.joints (min j.beams j.columns) j.seismic settings.behaviour }
     requires moment { moment ≤ 100000000 }
-    ensures { result ≡ end_moment settings j moment }
+    ensures value { result ≡ end_moment settings j moment }
+    ensures bound { result ≤ 400000000 }
 {
     let a = coefficient::coefficient(
         settings.joints,
-        lesser(j.beams, j.columns),
+        j.beams.min(j.columns),
         j.seismic,
         settings.behaviour,
     );
@@ -203,13 +184,15 @@ fn end_moment(settings: Settings, j: Joint, moment: u32) -> u64
 }
 
 // D = 1000·(m1 + m2)/length, up.
+#[tactic(auto, using(crate::proofs::Steps::shear_at_most, exact::proofs::Rounding::ceil_is))]
 fn hingeless_shear(settings: Settings, j1: Joint, j2: Joint, m: Hingeless) -> u64
     requires { HingelessRange settings j1 j2 m }
-    ensures { result ≡ rounded_shear settings j1 j2 m }
+    ensures value { result ≡ rounded_shear settings j1 j2 m }
+    ensures bound { result ≤ 1600000000 }
 {
     let end1 = end_moment(settings, j1, m.moment1);
     let end2 = end_moment(settings, j2, m.moment2);
-    exact::ceil_div_unsigned(1000 * (end1 + end2), m.length as u64)
+    (1000 * (end1 + end2)).div_ceil(u64::from(m.length))
 }
 
 // B.3: upper and lower shear from the moments at both ends.
@@ -218,31 +201,17 @@ pub fn hingeless_row(settings: Settings, j1: Joint, j2: Joint, m: Hingeless) -> 
     ensures { result ≡ hingeless_row settings j1 j2 m }
 {
     let shear = claims::word(hingeless_shear(settings, j1, j2, m));
-    let nonseismic = m.nonseismic as i64;
+    let nonseismic = i64::from(m.nonseismic);
     let upper = nonseismic + shear;
     let lower = nonseismic - shear;
     Row {
         word2: upper,
         word3: lower,
-        word4: claims::word(m.strength as u64),
+        word4: i64::from(m.strength),
         word5: 0,
         word6: 0,
         verdict: shears_verdict(upper, lower, m.strength),
     }
-}
-
-// A lap at place 2, the wall base.
-fn lap_at_wall_base(place: u32, lap: u32) -> bool
-    ensures { result ≡ (eqb place 2 && eqb lap 1) }
-{
-    if place == 2 { lap == 1 } else { false }
-}
-
-// Bit 32 where xu·mu exceeds its limit, bit 64 for a lap at fault.
-fn detail_bits(exceeded: bool, lap: bool) -> i64
-    ensures { result ≡ pos (flag 32 exceeded + flag 64 lap) }
-{
-    claims::word(claims::verdict_of(32, exceeded, 64, lap))
 }
 
 // xu·mu against 175·(1000 − xy), and the lap.
@@ -250,15 +219,15 @@ pub fn detail_row(d: Detail) -> Row
     requires { DetailRange d }
     ensures { result ≡ detail_row d }
 {
-    let demand = (d.ultimate as u64) * (d.ductility as u64);
-    let limit = 175 * (1000 - (d.yielded as u64));
-    let lap = lap_at_wall_base(d.place, d.lap);
+    let demand = d.ultimate * d.ductility;
+    let limit = 175 * (1000 - d.yielded);
+    let lap = d.place == WALL_BASE && d.lap == 1;
     Row {
-        word2: claims::word(demand),
-        word3: claims::word(limit),
+        word2: i64::from(demand),
+        word3: i64::from(limit),
         word4: 0,
         word5: 0,
         word6: 0,
-        verdict: detail_bits(limit < demand, lap),
+        verdict: claims::word(claims::verdict_of(32, limit < demand, 64, lap)),
     }
 }

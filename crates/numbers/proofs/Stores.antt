@@ -1,33 +1,38 @@
--- A number stored byte by byte stands in the slice with its most significant byte first. Assumes nothing.
-use mathlib.Core.List.{List}
-use mathlib.Core.Path.{◌≡◌, ap}
-use Prim.Native.Nat.{ℕ, suc, ◌+◌, ◌/◌, ◌%◌, ◌^◌, ◌≤◌}
+-- The last bytes of a number of 32 bits are that number with its most significant byte first; put into a slice, they stand there.
+-- Assumes nothing.
+use mathlib.Core.List.{List, [], ◌∷◌, ◌++◌, append_assoc}
+use mathlib.Core.Path.{◌≡◌, refl, sym, ap}
+use Prim.Native.Nat.{ℕ, zero, suc, ◌+◌, ◌-◌, ◌/◌, ◌%◌, ◌^◌, ◌≤◌}
 use native.Mathlib.Nat.{div-one}
 use native.Mathlib.Omega.{arith}
-use lib.ListN.{length, set}
-use lib.Seq.{sets-eq}
-use Rattle.slices.specs.Written.{written, Put}
+use lib.ListN.{length, take, drop}
+use lib.Seq.{drop-drop}
+use mir.Syntax.{w32}
+use Rattle.std.specs.Int.{bytes_high_first, to_be_bytes}
+use Rattle.slices.specs.Written.{written}
 use Rattle.numbers.specs.BigEndian.{big_endian}
 
-module _ (l : List ℕ) (at v : ℕ) where
-  -- the last byte is the remainder
-  last : v / 256 ^ 0 % 256 ≡ v % 256
-  last = ap (λ (n : ℕ). n % 256) (div-one v)
+high_first : (n v : ℕ) → bytes_high_first n v ≡ big_endian n v
+unfolding big_endian
+high_first zero v = refl
+high_first (suc zero) v = ap (λ (k : ℕ). k % 256 ∷ []) (sym (div-one v))
+high_first (suc (suc n)) v = ap (λ (l : List ℕ). v / 256 ^ suc n % 256 ∷ l) (high_first (suc n) v)
 
-  pub one_stored : at + 1 ≤ length l → Put l at (big_endian 1 v) (set l at (v % 256))
-  unfolding big_endian written
-  one_stored h = record { bytes = rw (← last) (sets-eq (big_endian 1 v) l at h) }
+-- the last n of a word's four bytes
+pub last_bytes : (n v : ℕ) → n ≤ 4 → take (4 - (4 - n)) (drop (4 - n) (to_be_bytes w32 v)) ≡ big_endian n v
+last_bytes zero v h = high_first 0 v
+last_bytes (suc zero) v h = high_first 1 v
+last_bytes (suc (suc zero)) v h = high_first 2 v
+last_bytes (suc (suc (suc zero))) v h = high_first 3 v
+last_bytes (suc (suc (suc (suc zero)))) v h = high_first 4 v
+last_bytes (suc (suc (suc (suc (suc n))))) v h = absurd (more n h)
+  where
+    more : (n : ℕ) → suc (suc (suc (suc (suc n)))) ≤ 4 → ⊥
+    more n h = omega arith
 
-  pub two_stored : at + 2 ≤ length l → Put l at (big_endian 2 v) (set (set l at (v / 256 % 256)) (at + 1) (v % 256))
-  unfolding big_endian written
-  two_stored h =
-      let e1 : at + 1 ≡ suc at = omega arith in
-      record { bytes = rw (← last, e1) (sets-eq (big_endian 2 v) l at h) }
-
-  pub four_stored : at + 4 ≤ length l → Put l at (big_endian 4 v) (set (set (set (set l at (v / 16777216 % 256)) (at + 1) (v / 65536 % 256)) (at + 2) (v / 256 % 256)) (at + 3) (v % 256))
-  unfolding big_endian written
-  four_stored h =
-      let e1 : at + 1 ≡ suc at = omega arith in
-      let e2 : at + 2 ≡ suc (suc at) = omega arith in
-      let e3 : at + 3 ≡ suc (suc (suc at)) = omega arith in
-      record { bytes = rw (← last, e1, e2, e3) (sets-eq (big_endian 4 v) l at h) }
+-- a text in the place of as many bytes from a position on
+pub placed : (before : List ℕ) (at n : ℕ) (text : List ℕ) → length text ≡ n → take at before ++ (text ++ drop (at + n - at) (drop at before)) ≡ written before at text
+unfolding written
+placed before at n text e =
+    let k : at + n - at ≡ n = omega arith in
+    rw (k, drop-drop n at before, ← append_assoc (take at before) text (drop (at + n) before), e)

@@ -1,35 +1,38 @@
 -- The search for a value that is too wide: what holds at each turn, over the words of a row and over the rows. Assumes nothing.
-use mathlib.Core.Path.{◌≡◌, refl, sym, ◌∙◌}
-use mathlib.Core.Bool.{Bool, true, false, true≢false}
+use mathlib.Core.Path.{◌≡◌, refl, sym, ap, ◌∙◌}
+use mathlib.Core.Bool.{Bool, true, false, ◌||◌, true≢false}
 use mathlib.Core.Logic.{⊎_elim}
-use mathlib.Core.List.{List}
-use Prim.Native.Nat.{ℕ, zero, suc, ◌+◌, ◌*◌, ◌≤◌, ◌<◌}
+use mathlib.Core.List.{List, [], ◌∷◌, ◌++◌}
+use Prim.Native.Nat.{ℕ, zero, suc, ◌+◌, ◌≤◌, ◌<◌}
 use native.Mathlib.Nat.{eq-or-lt_of_le}
 use native.Mathlib.Numerals.{add-one}
 use native.Mathlib.Omega.{arith}
 use lib.IntN.{ℤ, pos}
 use lib.ListN.{length, get_or, drop}
+use Rattle.std.specs.List.{list_any}
+use Rattle.std.specs.Simd.{first_chunks}
+use Rattle.slices.proofs.Rows.{chunks_more}
 use Rattle.text.specs.Lines.{row_words}
 use Rattle.printing.specs.Page.{widths}
 use Rattle.printing.specs.Answers.{too_wide, any_too_wide, page_too_wide}
-use Rattle.printing.proofs.LineSteps.{wide_from, second_false}
+use Rattle.printing.proofs.LineSteps.{wide_more, second_false}
 
 -- ---- the words of a row
 
 -- the words before word i are not too wide
-abbrev pub NoneBefore : List ℤ → ℕ → ℕ → Type 0
-NoneBefore words row i = any_too_wide widths (row_words words row) ≡ any_too_wide (drop i widths) (drop i (row_words words row))
+abbrev pub NoneBefore : List ℤ → ℕ → Type 0
+NoneBefore row i = any_too_wide widths row ≡ any_too_wide (drop i widths) (drop i row)
 
-module _ (words : List ℤ) (row : ℕ) (whole : 8 * row + 8 ≤ length words) (i : ℕ) (h : i < 8) (p : NoneBefore words row i) where
-  pub found : too_wide (get_or widths i 0) (get_or words (8 * row + i) (pos 0)) ≡ true → any_too_wide widths (row_words words row) ≡ true
-  found e = p ∙ wide_from words row whole i h ∙ rw e
+module _ (row : List ℤ) (eight : length row ≡ 8) (i : ℕ) (h : i < 8) (p : NoneBefore row i) where
+  pub found : too_wide (get_or widths i 0) (get_or row i (pos 0)) ≡ true → any_too_wide widths row ≡ true
+  found e = p ∙ wide_more widths row i h (omega arith) ∙ rw e
 
-  pub passed : too_wide (get_or widths i 0) (get_or words (8 * row + i) (pos 0)) ≡ false → NoneBefore words row (i + 1)
-  passed e = p ∙ wide_from words row whole i h ∙ rw (e, add-one)
+  pub passed : too_wide (get_or widths i 0) (get_or row i (pos 0)) ≡ false → NoneBefore row (i + 1)
+  passed e = p ∙ wide_more widths row i h (omega arith) ∙ rw (e, add-one)
 
-pub none_found : (words : List ℤ) (row : ℕ) → NoneBefore words row 8 → any_too_wide widths (row_words words row) ≡ false
+pub none_found : (row : List ℤ) → NoneBefore row 8 → any_too_wide widths row ≡ false
 unfolding any_too_wide
-none_found words row p = p
+none_found row p = p
 
 -- ---- the rows
 
@@ -63,3 +66,24 @@ pub narrow_row : (words : List ℤ) (row n : ℕ) → row < n → page_too_wide 
 unfolding page_too_wide
 narrow_row words row n h e =
     second_false (page_too_wide words row) (any_too_wide widths (row_words words row)) (narrow_before words (suc row) n h e)
+
+-- the same of the rows as chunks
+any_append : (test : List ℤ → Bool) (xs : List (List ℤ)) (x : List ℤ) → list_any test (xs ++ x ∷ []) ≡ (list_any test xs || test x)
+any_append test [] x = or_false (test x)
+  where
+    or_false : (b : Bool) → (b || false) ≡ b
+    or_false true = refl
+    or_false false = refl
+any_append test (y ∷ xs) x = step (test y) (any_append test xs x)
+  where
+    step : (b : Bool) → list_any test (xs ++ x ∷ []) ≡ (list_any test xs || test x) → (b || list_any test (xs ++ x ∷ [])) ≡ ((b || list_any test xs) || test x)
+    step true e = refl
+    step false e = e
+
+pub any_row : (words : List ℤ) (n : ℕ) → list_any (any_too_wide widths) (first_chunks 8 n words) ≡ page_too_wide words n
+unfolding page_too_wide
+any_row words zero = refl
+any_row words (suc n) =
+    ap (list_any (any_too_wide widths)) (chunks_more n words)
+    ∙ any_append (any_too_wide widths) (first_chunks 8 n words) (row_words words n)
+    ∙ ap (λ b. b || any_too_wide widths (row_words words n)) (any_row words n)

@@ -1,17 +1,19 @@
 -- One value on a page: when it is too wide, by its characters and by its size, and what it takes in its width. Assumes nothing.
-use mathlib.Core.Path.{◌≡◌, refl, sym, ap, ◌∙◌}
-use mathlib.Core.Bool.{Bool, true, false, true≢false}
-use Prim.Native.Nat.{ℕ, zero, suc, ◌-◌, ◌*◌, ◌^◌, ◌≤◌, ◌<◌}
-use native.Mathlib.Nat.{pow-suc}
+use mathlib.Core.Path.{◌≡◌, refl, sym, ap, ap₂, ◌∙◌}
+use mathlib.Core.Bool.{Bool, true, false}
+use Prim.Native.Nat.{ℕ, suc, ◌+◌, ◌-◌, ◌≤◌, ◌<◌}
 use native.Mathlib.Omega.{arith}
-use borrow.Author.Tests.{ltb-true, ltb-false, leb-true, leb-false, lt-ltb, le-ltb}
-use lib.Dec.{leb, lit≤}
-use lib.IntN.{ℤ, pos, negsuc, nat_abs}
-use lib.ListN.{length, get_or, length-append, length-replicate}
-use lib.Signed.{lt_z}
-use Rattle.text.specs.Decimal.{signed_decimal}
-use Rattle.text.proofs.Digits.{some_digit, length_below, length_from}
-use Rattle.printing.specs.Page.{widths, right_aligned}
+use borrow.Author.Tests.{ltb-false, leb-true, leb-false, lt-ltb, le-ltb}
+use lib.Dec.{leb}
+use lib.IntN.{ℤ, pos, negsuc}
+use lib.ListN.{length, take, drop, set, replicate, length-append, length-replicate, take-append-drop, replicate-append-replicate}
+use lib.Seq.{set_at}
+use Rattle.std.proofs.lemmas.List.{take-replicate, drop_all}
+use mathlib.Core.List.{List, [], ◌∷◌, ◌++◌, append_assoc, append-nil}
+use Rattle.text.specs.Decimal.{signed_decimal, minus}
+use Rattle.text.specs.Lines.{space}
+use Rattle.text.proofs.Digits.{some_digit}
+use Rattle.printing.specs.Page.{right_aligned}
 use Rattle.printing.specs.Answers.{too_wide}
 
 -- a value takes a character at least
@@ -36,43 +38,9 @@ same_test a b t holds fails = go (leb a b) refl
     go true e = e ∙ sym (holds (leb-true a b e))
     go false e = e ∙ sym (fails (leb-false a b e))
 
--- ---- the test by the size: of a width of k + 3, a negative value from 10ᵏ⁺¹ on is too wide, another from ten times that
-
-natural_test : (k n : ℕ) → leb (10 * 10 ^ suc k) n ≡ too_wide (suc (suc (suc k))) (pos n)
-unfolding signed_decimal
-natural_test k n =
-    let p : 10 ^ suc (suc k) ≡ 10 * 10 ^ suc k = pow-suc 10 (suc k) ∙ omega arith in
-    same_test (10 * 10 ^ suc k) n (too_wide (suc (suc (suc k))) (pos n))
-    (λ h. wide (suc (suc (suc k))) (pos n) (length_from (suc (suc k)) n (omega (arith, p))))
-    (λ l. narrow (suc (suc (suc k))) (pos n) (omega (arith, length_below (suc k) n (omega (arith, p)))))
-
-negative_test : (k n : ℕ) → leb (10 ^ suc k) (suc n) ≡ too_wide (suc (suc (suc k))) (negsuc n)
-unfolding signed_decimal
-negative_test k n =
-    same_test (10 ^ suc k) (suc n) (too_wide (suc (suc (suc k))) (negsuc n))
-    (λ h. wide (suc (suc (suc k))) (negsuc n) (omega (arith, length_from (suc k) (suc n) h)))
-    (λ l. narrow (suc (suc (suc k))) (negsuc n) (omega (arith, length_below k (suc n) l)))
-
-module _ (width : ℕ) (h : 3 ≤ width) (z : ℤ) where
-  above_two : suc (suc (suc (width - 3))) ≡ width
-  above_two = omega arith
-
-  power : 10 ^ suc (width - 3) ≡ 10 ^ (width - 2)
-  power = ap (λ (k : ℕ). 10 ^ k) (omega arith)
-
-  pub test_below : lt_z z (pos 0) ≡ true → leb (10 ^ (width - 2)) (nat_abs z) ≡ too_wide width z
-  test_below t = by z t
-    where
-      by : (z : ℤ) → lt_z z (pos 0) ≡ true → leb (10 ^ (width - 2)) (nat_abs z) ≡ too_wide width z
-      by (pos n) t = absurd (omega (arith, ltb-true n 0 t))
-      by (negsuc n) t = rw (power, above_two) at (negative_test (width - 3) n)
-
-  pub test_from : lt_z z (pos 0) ≡ false → leb (10 * 10 ^ (width - 2)) (nat_abs z) ≡ too_wide width z
-  test_from t = by z t
-    where
-      by : (z : ℤ) → lt_z z (pos 0) ≡ false → leb (10 * 10 ^ (width - 2)) (nat_abs z) ≡ too_wide width z
-      by (pos n) t = rw (power, above_two) at (natural_test (width - 3) n)
-      by (negsuc n) t = absurd (true≢false t)
+-- the test of the code: the value takes its width or more
+pub size_test : (width : ℕ) (z : ℤ) → leb width (length (signed_decimal z)) ≡ too_wide width z
+size_test width z = same_test width (length (signed_decimal z)) (too_wide width z) (wide width z) (narrow width z)
 
 -- a blank stands before a value that is not too wide
 pub blank_before : (width : ℕ) (z : ℤ) → too_wide width z ≡ false → length (signed_decimal z) < width
@@ -85,26 +53,37 @@ unfolding right_aligned
 length_right_aligned width z e =
     rw (length-append, length-replicate) (omega (arith, blank_before width z e))
 
--- ---- the widths of the eight words
+-- ---- a value at the end of blanks
 
--- what holds of 7, 3, 13 and 5 holds of each
-pub each_width : (P : ℕ → ℕ → Type 0) → P 0 7 → P 1 3 → P 7 5 → ((word : ℕ) → ¬ (word ≡ 0) → ¬ (word ≡ 1) → ¬ (word ≡ 7) → P word 13) → (word : ℕ) → word < 8 → P word (get_or widths word 0)
-each_width P a b c d zero h = a
-each_width P a b c d (suc zero) h = b
-each_width P a b c d (suc (suc zero)) h = d 2 (omega arith) (omega arith) (omega arith)
-each_width P a b c d (suc (suc (suc zero))) h = d 3 (omega arith) (omega arith) (omega arith)
-each_width P a b c d (suc (suc (suc (suc zero)))) h = d 4 (omega arith) (omega arith) (omega arith)
-each_width P a b c d (suc (suc (suc (suc (suc zero))))) h = d 5 (omega arith) (omega arith) (omega arith)
-each_width P a b c d (suc (suc (suc (suc (suc (suc zero)))))) h = d 6 (omega arith) (omega arith) (omega arith)
-each_width P a b c d (suc (suc (suc (suc (suc (suc (suc zero))))))) h = c
-each_width P a b c d (suc (suc (suc (suc (suc (suc (suc (suc n)))))))) h = absurd (omega arith)
+-- digits up to the end of blanks, in a field of so many characters
+pub record Placed (width : ℕ) (digits : List ℕ) (field : List ℕ) (first : ℕ) : Type 0 where
+  pub position : first + length digits ≡ width
+  pub is : field ≡ replicate first space ++ digits
 
-pub words_between : (P : ℕ → Type 0) → P 13 → (word : ℕ) → word < 8 → ¬ (word ≡ 0) → ¬ (word ≡ 1) → ¬ (word ≡ 7) → P (get_or widths word 0)
-words_between P p =
-    each_width (λ word w. ¬ (word ≡ 0) → ¬ (word ≡ 1) → ¬ (word ≡ 7) → P w) (λ a b c. absurd (a refl)) (λ a b c. absurd (b refl)) (λ a b c. absurd (c refl)) (λ word x y z a b c. p)
+pub placed : (width : ℕ) (digits blanks field : List ℕ) (first : ℕ) → first + length digits ≡ width → blanks ≡ replicate width space
+    → drop first field ≡ digits ++ drop width blanks → take first field ≡ take first blanks → Placed width digits field first
+placed width digits blanks field first e b after before =
+    let none : drop width blanks ≡ [] = drop_all width blanks (omega (arith, ap length b, length-replicate width space)) in
+    let front : take first blanks ≡ replicate first space = ap (take first) b ∙ take-replicate first width space (omega arith) in
+    record {
+      position = e;
+      is = sym (take-append-drop first field) ∙ ap₂ (λ (x y : List ℕ). x ++ y) (before ∙ front) (after ∙ ap (λ r. digits ++ r) none ∙ append-nil digits);
+    }
 
-pub width_least : (word : ℕ) → word < 8 → 3 ≤ get_or widths word 0
-width_least = each_width (λ word w. 3 ≤ w) (omega arith) (omega arith) (omega arith) (λ word a b c. omega arith)
+module _ (width : ℕ) (z : ℤ) {digits field : List ℕ} {first : ℕ} (p : Placed width digits field first) where
+  pub natural_placed : signed_decimal z ≡ digits → field ≡ right_aligned width z
+  unfolding right_aligned
+  natural_placed e =
+      let front : width - length digits ≡ first = omega (arith, p.position) in
+      rw (e, front) p.is
 
-pub limit_most : (word : ℕ) → word < 8 → 10 ^ (get_or widths word 0 - 2) ≤ 100000000000
-limit_most = each_width (λ word w. 10 ^ (w - 2) ≤ 100000000000) (lit≤ tt) (lit≤ tt) (lit≤ tt) (λ word a b c. lit≤ tt)
+  pub negative_placed : signed_decimal z ≡ minus ∷ digits → length (signed_decimal z) < width → (0 < first) × (set field (first - 1) minus ≡ right_aligned width z)
+  unfolding right_aligned
+  negative_placed e h =
+      let room : 0 < first = omega (arith, p.position, ap length e) in
+      let front : width - length (minus ∷ digits) ≡ first - 1 = omega (arith, p.position) in
+      let blanks : replicate first space ≡ replicate (first - 1) space ++ space ∷ [] =
+      ap (λ k. replicate k space) (omega arith) ∙ sym (replicate-append-replicate (first - 1) 1 space) in
+      let text : field ≡ replicate (first - 1) space ++ space ∷ digits =
+      p.is ∙ ap (λ b. b ++ digits) blanks ∙ append_assoc (replicate (first - 1) space) (space ∷ []) digits in
+      (room, rw (e, front) (ap (λ t. set t (first - 1) minus) text ∙ set_at (replicate (first - 1) space) space digits minus (first - 1) (length-replicate (first - 1) space)))

@@ -1,11 +1,11 @@
 -- What the call `page` answers, and what the lent bytes are then. 02, No. 3: "Errors: 9 for too few words, then 12 when a value needs
 -- more than its width less one character, then 11 for a short byte slice; nothing is then written and the length answered is 0."
 -- Assumes nothing.
-use Rattle.std.specs.Prelude.{Bool, false, cond, ◌||◌, List, [], ◌∷◌, ◌++◌, ℕ, zero, suc, ◌-◌, ◌*◌, eqb, ltb, ℤ, length, drop}
+use Rattle.std.specs.Prelude.{Bool, false, cond, ◌||◌, List, [], ◌∷◌, ◌++◌, ℕ, zero, suc, ◌-◌, ◌*◌, eqb, ltb, ℤ, length, drop, Result, Ok, Err}
 use Rattle.text.specs.Decimal.{signed_decimal}
 use Rattle.text.specs.Lines.{row_words}
-use Rattle.printing.specs.declared.Printed.{Printed}
-use Rattle.printing.specs.declared.Printed.TheVariants.{Bytes, TooFewWords, TooWide, TooShort}
+use Rattle.printing.specs.declared.PageError.{PageError}
+use Rattle.printing.specs.declared.PageError.TheVariants.{TooFewWords, TooWide, TooShort}
 use Rattle.printing.specs.Page.{widths, page_text}
 
 -- the value needs more than its width less one character, its minus counted
@@ -40,11 +40,11 @@ abbrev pub too_few_words : ℕ → PageAnswer
 too_few_words n = record { number = 9; offset = 0; rows = n; bytes = 0 }
 
 -- the answer of page in the code, in 02's terms
-abbrev pub page_answer : Printed → PageAnswer
-page_answer (Bytes n) = printed n
-page_answer (TooFewWords n) = too_few_words n
-page_answer TooWide = refused_with 12
-page_answer TooShort = refused_with 11
+abbrev pub page_answer : Result ℕ PageError → PageAnswer
+page_answer (Ok n) = printed n
+page_answer (Err (TooFewWords n)) = too_few_words n
+page_answer (Err TooWide) = refused_with 12
+page_answer (Err TooShort) = refused_with 11
 
 -- what page answers for the first n rows, on a slice of so many bytes
 unfoldable pub page_of : List ℤ → ℕ → ℕ → PageAnswer

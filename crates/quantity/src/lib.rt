@@ -2,9 +2,29 @@
 // 01, "Quantities" and "Job commands"; form: "associated constants and range checks of the force, moment and length types".
 #![tactic(auto)]
 
-ghost use Rattle.std.specs.Prelude.{◌≡◌, nat_abs};
+ghost use Rattle.std.specs.Prelude.{◌≡◌, ℕ};
 ghost use Rattle.quantity.specs.Range.{within, within_signed};
-ghost use Rattle.quantity.specs.Quantities.{force_limit, moment_limit, force, moment, member_length, wall_length, side, behaviour, overstrength};
+ghost use Rattle.quantity.specs.Quantities.{force_limit, moment_limit, member_length, wall_length, side, behaviour, overstrength};
+
+// A quantity from 0, or where it has a sign from minus the greatest, to its greatest value.
+pub trait Quantity {
+    const GREATEST: u32;
+
+    ghost GREATEST: { ℕ };
+
+    final fn in_range(value: u32) -> bool
+        ensures { result ≡ within (record { least = 0; greatest = GREATEST }) value }
+    {
+        between(value, 0, Self::GREATEST)
+    }
+
+    #[tactic(auto, unfolding(crate::specs::Range::within_signed))]
+    final fn signed_in_range(value: i32) -> bool
+        ensures { result ≡ within_signed GREATEST value }
+    {
+        value.unsigned_abs() <= Self::GREATEST
+    }
+}
 
 // Newtons.
 #[derive(Drop)]
@@ -18,67 +38,30 @@ pub struct Moment(pub u32);
 #[derive(Drop)]
 pub struct Length(pub u32);
 
-// The size of a number without its sign.
-pub fn magnitude(value: i32) -> u32
-    ensures { result ≡ nat_abs value }
-{
-    exact::magnitude(exact::long(value)) as u32
-}
-
-// Both ends included.
+// Both ends included. The ends are two numbers, as a constant cannot be made by the call that makes a range.
+#[tactic(auto, unfolding(crate::specs::Range::within))]
 pub fn between(value: u32, least: u32, greatest: u32) -> bool
     ensures { result ≡ within (record { least = least; greatest = greatest }) value }
 {
-    if least <= value {
-        value <= greatest
-    } else {
-        false
-    }
+    (least..=greatest).contains(&value)
 }
 
-// From minus the greatest to the greatest.
-pub fn signed_between(value: i32, greatest: u32) -> bool
-    ensures { result ≡ within_signed greatest value }
-{
-    let size = magnitude(value);
-    size <= greatest
+impl Quantity for Force {
+    const GREATEST: u32 = 100_000_000; // newtons
+
+    ghost GREATEST = { force_limit };
 }
 
-impl Force {
-    pub const GREATEST: u32 = 100_000_000; // newtons
+impl Quantity for Moment {
+    const GREATEST: u32 = 100_000_000; // newton metres
 
-    pub fn in_range(newtons: u32) -> bool
-        ensures { result ≡ within force newtons }
-    {
-        between(newtons, 0, Force::GREATEST)
-    }
-
-    pub fn signed_in_range(newtons: i32) -> bool
-        ensures { result ≡ within_signed force_limit newtons }
-    {
-        signed_between(newtons, Force::GREATEST)
-    }
-}
-
-impl Moment {
-    pub const GREATEST: u32 = 100_000_000; // newton metres
-
-    pub fn in_range(metres: u32) -> bool
-        ensures { result ≡ within moment metres }
-    {
-        between(metres, 0, Moment::GREATEST)
-    }
-
-    pub fn signed_in_range(metres: i32) -> bool
-        ensures { result ≡ within_signed moment_limit metres }
-    {
-        signed_between(metres, Moment::GREATEST)
-    }
+    ghost GREATEST = { moment_limit };
 }
 
 impl Length {
     pub const GREATEST: u32 = 100_000; // millimetres
 
+    // Each range below is one call of `between` with two constants; a type for each would be longer.
     pub const LEAST_OF_MEMBER: u32 = 500;
 
     pub const LEAST_OF_WALL: u32 = 100;

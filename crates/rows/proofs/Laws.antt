@@ -7,43 +7,19 @@ use lib.IntN.{ℤ}
 use lib.ListN.{length, take, drop}
 use Rattle.claims.specs.declared.Row.{Row}
 use Rattle.format.specs.declared.Command.{Command}
-use Rattle.format.specs.declared.Command.TheVariants.{Finish as finish, Settings as settings, Joint as joint, Column as column, Beam as beam, Hingeless as hingeless, WallBase as wall_base, Storey as storey, Soil as soil, Footing as footing, Detail as detail}
-use Rattle.context.specs.declared.State.{State}
+use Rattle.format.specs.declared.Command.TheVariants.{Finish as finish, Settings as settings, Joint as joint, Soil as soil, Footing as footing}
 use Rattle.rows.specs.Rows.{row_count, words}
-use Rattle.rows.specs.Writing.{rows_from, stored_all, joined}
+use Rattle.rows.specs.Writing.{stored_all, joined}
 use Rattle.rows.proofs.Memory as memory
 
--- a command has as many rows off any state and sums
-pub rows_count : (t : State) (sums : List ℕ) (c : Command) → length (rows_from t sums c) ≡ row_count c
-unfolding rows_from row_count
-rows_count t sums finish = refl
-rows_count t sums (settings s) = refl
-rows_count t sums (joint id j) = refl
-rows_count t sums (column c) = refl
-rows_count t sums (beam b) = refl
-rows_count t sums (hingeless id1 id2 m) = refl
-rows_count t sums (wall_base b) = refl
-rows_count t sums (storey s) = refl
-rows_count t sums (soil s) = refl
-rows_count t sums (footing f) = refl
-rows_count t sums (detail d) = refl
-
-count_le : (c : Command) → row_count c ≤ 2
+pub count_le : (c : Command) → row_count c ≤ 2
 unfolding row_count
 count_le finish = omega arith
 count_le (settings s) = omega arith
 count_le (joint id j) = omega arith
-count_le (column c) = omega arith
-count_le (beam b) = omega arith
-count_le (hingeless id1 id2 m) = omega arith
-count_le (wall_base b) = omega arith
-count_le (storey s) = omega arith
 count_le (soil s) = omega arith
 count_le (footing f) = omega arith
-count_le (detail d) = omega arith
-
-pub rows_le : (t : State) (sums : List ℕ) (c : Command) → length (rows_from t sums c) ≤ 2
-rows_le t sums c = omega (arith, rows_count t sums c, count_le c)
+count_le _ = omega arith
 
 -- rows of eight words each
 abbrev pub Eights : List (List ℤ) → Type 0

@@ -1,6 +1,5 @@
 -- Laws of rows: in a slice of words, how many a command has, and that they are those of its context. Assumes nothing.
 pub mod Memory
-pub mod Tags
 pub mod Laws
 pub mod RowsSame
 pub mod SetRows

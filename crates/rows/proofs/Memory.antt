@@ -1,36 +1,29 @@
--- Rows in a slice of words: eight stores are one row, and what rows one after the other leave. Assumes nothing.
+-- Rows in a slice of words: one row put in its place, and what rows one after the other leave. Assumes nothing.
 use mathlib.Core.Bool.{Bool, true, false, cond}
-use mathlib.Core.List.{List, [], ◌∷◌, ◌++◌, append_assoc, append-nil, map}
+use mathlib.Core.List.{List, [], ◌∷◌, ◌++◌, append_assoc, append-nil}
 use mathlib.Core.Path.{◌≡◌, refl, sym, ap, ◌∙◌}
-use Prim.Native.Nat.{ℕ, suc, ◌+◌, ◌*◌, ◌≤◌, ◌<◌}
+use Prim.Native.Nat.{ℕ, suc, ◌+◌, ◌-◌, ◌*◌, ◌≤◌, ◌<◌}
 use native.Mathlib.Omega.{arith}
 use lib.Dec.{leb}
 use lib.IntN.{ℤ}
-use lib.ListN.{length, take, drop, set, length-append, length-drop, take-append-drop}
-use lib.Seq.{sets-eq, length-take-le, take_at, drop-append-add, drop-drop}
+use lib.ListN.{length, take, drop, length-append, length-drop, take-append-drop}
+use borrow.Rule.Slice.PartMut.{put_mid}
+use lib.Seq.{length-take-le, take_at, drop-append-add, drop-drop}
 use borrow.Author.Tests.{le-leb, lt-leb, leb-true}
-use Rattle.claims.specs.declared.Row.{Row}
-use Rattle.rows.specs.Rows.{words}
 use Rattle.rows.specs.Writing.{stored, stored_all, joined}
 
 -- ---- one row
 
-pub eight_words : (l : List ℤ) (at : ℕ) (w0 w1 w2 w3 w4 w5 w6 w7 : ℤ) → at + 8 ≤ length l →
-    set (set (set (set (set (set (set (set l at w0) (at + 1) w1) (at + 2) w2) (at + 3) w3) (at + 4) w4) (at + 5) w5) (at + 6) w6) (at + 7) w7
-    ≡ take at l ++ (w0 ∷ w1 ∷ w2 ∷ w3 ∷ w4 ∷ w5 ∷ w6 ∷ w7 ∷ []) ++ drop (at + 8) l
-eight_words l at w0 w1 w2 w3 w4 w5 w6 w7 h =
-    let e1 : at + 1 ≡ suc at = omega arith in
-    let e2 : at + 2 ≡ suc (suc at) = omega arith in
-    let e3 : at + 3 ≡ suc (suc (suc at)) = omega arith in
-    let e4 : at + 4 ≡ suc (suc (suc (suc at))) = omega arith in
-    let e5 : at + 5 ≡ suc (suc (suc (suc (suc at)))) = omega arith in
-    let e6 : at + 6 ≡ suc (suc (suc (suc (suc (suc at))))) = omega arith in
-    let e7 : at + 7 ≡ suc (suc (suc (suc (suc (suc (suc at)))))) = omega arith in
-    rw (e1, e2, e3, e4, e5, e6, e7) (sets-eq (w0 ∷ w1 ∷ w2 ∷ w3 ∷ w4 ∷ w5 ∷ w6 ∷ w7 ∷ []) l at h)
-
 pub stored_room : (m : List ℤ) (n : ℕ) (row : List ℤ) → 8 * n + 8 ≤ length m → stored m n row ≡ take (8 * n) m ++ row ++ drop (8 * n + 8) m
 unfolding stored
 stored_room m n row h = rw (le-leb (8 * n + 8) (length m) h)
+
+-- as a part of the slice is written
+pub stored_part : (m : List ℤ) (n : ℕ) (row : List ℤ) → 8 * n + 8 ≤ length m → put_mid (8 * n) (8 * n + 8 - 8 * n) m row ≡ stored m n row
+stored_part m n row h =
+    let e : 8 * n + (8 * n + 8 - 8 * n) ≡ 8 * n + 8 = omega arith in
+    rw (stored_room m n row h, append_assoc)
+    (ap (λ (x : List ℤ). take (8 * n) m ++ (row ++ x)) (drop-drop (8 * n + 8 - 8 * n) (8 * n) m ∙ ap (λ (i : ℕ). drop i m) e))
 
 pub stored_full : (m : List ℤ) (n : ℕ) (row : List ℤ) → length m < 8 * n + 8 → stored m n row ≡ m
 unfolding stored
@@ -102,20 +95,6 @@ stored_all_fits m n (r ∷ rs) e h =
     stored_all_fits (stored m n r) (n + 1) rs e.1 all
     ∙ rw (stored_room m n r room, take_row m n r e.0 room, drop_row m n (length rs) r e.0 room, z)
     (ap (λ (x : List ℤ). x ++ drop (8 * (n + 1 + length rs)) m) (append_assoc (take (8 * n) m) r (joined rs)))
-
--- ---- the rows of a command
-
--- rows are one row, which was written
-pub one_row : (m : List ℤ) (n offset byte : ℕ) (row : Row) (rows : List Row) → rows ≡ row ∷ [] → {r : ℕ} {e : List ℤ} → r ≡ n + 1 → e ≡ stored m n (words offset byte row) →
-    (r ≡ n + length rows) × (e ≡ stored_all m n (map (words offset byte) rows))
-unfolding stored_all
-one_row m n offset byte row rows h p q = rw h (p, q)
-
--- rows are two rows, written one after the other
-pub two_rows : (m : List ℤ) (n offset byte : ℕ) (first second : Row) (rows : List Row) → rows ≡ first ∷ second ∷ [] → {r : ℕ} {e : List ℤ} → r ≡ n + 2 →
-    e ≡ stored (stored m n (words offset byte first)) (n + 1) (words offset byte second) → (r ≡ n + length rows) × (e ≡ stored_all m n (map (words offset byte) rows))
-unfolding stored_all
-two_rows m n offset byte first second rows h p q = rw h (p, q)
 
 -- where there is no room for the first row there is none for a later one
 pub stored_all_none : (m : List ℤ) (n : ℕ) (rows : List (List ℤ)) → length m < 8 * n + 8 → stored_all m n rows ≡ m

@@ -1,44 +1,55 @@
--- The rows of a command in the shape that the code keeps: off the state and the joints' sums after it; and writing them into a
--- slice of words. proofs/RowsSame.antt ties them to the rows of a command's context.
-use Rattle.std.specs.Prelude.{◌≡◌, Bool, true, false, cond, List, [], ◌∷◌, ◌++◌, ℕ, ◌+◌, ◌*◌, ◌≤◌, leb, ℤ, length, take, drop}
+-- The rows of a command in the shape that the code keeps: off the state and the joints after it; and writing them into a slice of
+-- words. proofs/RowsSame.antt ties them to the rows of a command's context.
+use Rattle.std.specs.Prelude.{◌≡◌, true, cond, List, [], ◌∷◌, ◌++◌, ℕ, ◌+◌, ◌*◌, ◌≤◌, leb, ℤ, length, take, drop, Option}
 use Rattle.coefficient.specs.Coefficient.{fraction}
 use Rattle.claims.specs.declared.Row.{Row}
+use Rattle.actions.specs.declared.Sign.TheVariants.{Plus, Minus}
 use Rattle.members.specs.Column.{column_row}
 use Rattle.members.specs.Beam.{beam_row}
 use Rattle.members.specs.Hingeless.{hingeless_row}
 use Rattle.members.specs.Detail.{detail_row}
 use Rattle.walls.specs.declared.Wall.{Wall}
+use Rattle.walls.specs.declared.WallBase.{WallBase}
 use Rattle.walls.specs.declared.Storey.{Storey}
-use Rattle.walls.specs.Running.{WallRange}
 use Rattle.walls.specs.Base.{base_row_from}
 use Rattle.walls.specs.Storey.{storey_row_from}
 use Rattle.footing.specs.Rows.{footing_row}
 use Rattle.format.specs.declared.Command.{Command}
-use Rattle.format.specs.declared.Command.TheVariants.{Finish as finish, Settings as settings, Joint as joint, Column as column, Beam as beam, Hingeless as hingeless, WallBase as wall_base, Storey as storey, Soil as soil, Footing as footing, Detail as detail}
+use Rattle.format.specs.declared.Command.TheVariants.{Column as column, Beam as beam, Hingeless as hingeless, WallBase as wall_base, Storey as storey, Footing as footing, Detail as detail}
 use Rattle.format.specs.Commands.{in_range}
 use Rattle.blocks.specs.Sets.{storeys_at, all_in_range}
 use Rattle.context.specs.declared.State.{State}
-use Rattle.context.specs.Running.{joint_held, SoundState, SoundSums}
+use Rattle.context.specs.Context.{when_given}
+use Rattle.context.specs.Running.{JointTable, joint_at, running, SoundState, SoundJoints}
 use Rattle.rows.specs.Rows.{words}
 
-unfoldable pub rows_from : State → List ℕ → Command → List Row
-rows_from t sums finish = []
-rows_from t sums (settings s) = []
-rows_from t sums (joint id j) = []
-rows_from t sums (column c) = column_row t.settings.behaviour c ∷ []
-rows_from t sums (beam b) = beam_row t.settings.behaviour b ∷ []
-rows_from t sums (hingeless id1 id2 m) = hingeless_row t.settings (joint_held sums id1) (joint_held sums id2) m ∷ []
-rows_from t sums (wall_base b) = base_row_from (fraction t.wall.coefficient) t.wall.shear t.wall.governs b ∷ []
-rows_from t sums (storey s) = storey_row_from (fraction t.wall.coefficient) t.wall.shear t.wall.resistance s ∷ []
-rows_from t sums (soil s) = []
-rows_from t sums (footing f) =
-    footing_row t.settings f t.soil t.sensitive false ∷ footing_row t.settings f t.soil t.sensitive true ∷ []
-rows_from t sums (detail d) = detail_row d ∷ []
+-- a wall base's row and a storey's off the running values
+abbrev pub running_base_row : Wall → WallBase → Row
+running_base_row w b = base_row_from (fraction w.coefficient) w.shear w.governs b
+
+abbrev pub running_storey_row : Wall → Storey → Row
+running_storey_row w s = storey_row_from (fraction w.coefficient) w.shear w.resistance s
+
+unfoldable pub rows_from : State → JointTable → Command → List Row
+rows_from t joints (column c) = when_given t.settings (λ s. column_row s.behaviour c ∷ [])
+rows_from t joints (beam b) = when_given t.settings (λ s. beam_row s.behaviour b ∷ [])
+rows_from t joints (hingeless id1 id2 m) =
+    when_given t.settings (λ s. when_given (joint_at joints id1) (λ i. when_given (joint_at joints id2) (λ j. hingeless_row s i j m ∷ [])))
+rows_from t joints (wall_base b) = when_given (running t.wall) (λ w. running_base_row w b ∷ [])
+rows_from t joints (storey s) = when_given (running t.wall) (λ w. running_storey_row w s ∷ [])
+rows_from t joints (footing f) =
+    when_given t.settings (λ s. when_given t.soil (λ g. footing_row s f g.soil g.sensitive Plus ∷ footing_row s f g.soil g.sensitive Minus ∷ []))
+rows_from t joints (detail d) = detail_row d ∷ []
+rows_from t joints _ = []
 
 -- the rows of a block's sets, the first at an offset, off the running values of the wall: each row has its set's offset and 7
 unfoldable pub set_rows : Wall → ℕ → List Storey → List (List ℤ)
 set_rows w at [] = []
-set_rows w at (s ∷ ss) = words at 7 (storey_row_from (fraction w.coefficient) w.shear w.resistance s) ∷ set_rows w (at + 24) ss
+set_rows w at (s ∷ ss) = words at 7 (running_storey_row w s) ∷ set_rows w (at + 24) ss
+
+-- where the wall has running values
+abbrev pub set_rows_running : Option Wall → ℕ → List Storey → List (List ℤ)
+set_rows_running wall at ss = when_given wall (λ w. set_rows w at ss)
 
 -- ---- writing rows: row n of a slice of words is written where there is room for it
 
@@ -58,13 +69,12 @@ joined (r ∷ rs) = r ++ joined rs
 
 -- ---- what the code asks for the rows of a command
 
-pub record EmitAsks (t : State) (room : Bool) (sums : List ℕ) (c : Command) : Type 0 where
+pub record EmitAsks (t : State) (table : JointTable) (c : Command) : Type 0 where
   pub state : SoundState t
-  pub joints : SoundSums room sums
+  pub joints : SoundJoints table
   pub ranged : in_range c ≡ true
 
 -- for the rows of a block: so many sets that stand whole in the job, each in range
-pub record SetsAsk (w : Wall) (job : List ℕ) (at count : ℕ) : Type 0 where
-  pub wall : WallRange w
+pub record SetsAsk (job : List ℕ) (at count : ℕ) : Type 0 where
   pub whole : at + 24 * count ≤ length job
   pub ranged : all_in_range (storeys_at count job at) ≡ true

@@ -1,2 +1,3 @@
--- Laws of writing into a lent slice. Assumes nothing.
+-- Laws of writing into a lent slice, and of rows as chunks. Assumes nothing.
 pub mod Writing
+pub mod Rows

@@ -14,11 +14,6 @@ pub record Writes (before : List ℕ) (at : ℕ) (text after : List ℕ) (next :
   pub position : next ≡ at + length text
   pub bytes : after ≡ written before at text
 
--- the call put the text into the slice up to the position `end`, and answers the position of its first byte
-pub record PutsBefore (before : List ℕ) (end : ℕ) (text after : List ℕ) (first : ℕ) : Type 0 where
-  pub position : first + length text ≡ end
-  pub bytes : after ≡ written before first text
-
 -- the same as `Writes`, where the text has at most so many bytes
 pub record WritesAtMost (most : ℕ) (before : List ℕ) (at : ℕ) (text after : List ℕ) (next : ℕ) : Type 0 where
   pub writes : Writes before at text after next

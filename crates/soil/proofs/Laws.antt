@@ -1,24 +1,25 @@
 -- What callers use of take-down: t is at most 20,000 and s at most 1,000,000; in range there is no refusal; and a soil that was read
 -- takes down. Assumes nothing.
 use mathlib.Core.Path.{◌≡◌, refl, sym, ap, ◌∙◌, subst}
-use mathlib.Core.Bool.{Bool, true, false, not, ◌&&◌, cond, true≢false}
-use Prim.Native.Nat.{ℕ, ◌*◌, ◌≤◌, zero-le}
+use Rattle.std.specs.Prelude.{Option, Some, None, is_some}
+use Rattle.std.specs.Option.{unwrap_or}
+use mathlib.Core.Bool.{Bool, true, false, ◌&&◌, cond, true≢false}
+use Prim.Native.Nat.{ℕ, ◌*◌, ◌≤◌, ◌<◌, zero-le}
 use native.Mathlib.Omega.{arith}
 use borrow.Author.Tests.{lt-leb, eqb-true, eqb-false, eq-eqb, ne_eqb}
 use lib.Dec.{T, eqb, leb→le, lit≤}
-use lib.Ieee.{Float, binary32, of_bits, nan_bits}
+use lib.Ieee.{Float, binary32, of_bits, le}
 use lib.Ieee.Bits.{is_true}
 use lib.Ieee.Fits.{and_l, and_r}
 use Rattle.soil.specs.declared.Soil.{Soil}
 use Rattle.soil.specs.declared.Soil.TheVariants.{Granular, Cohesive}
-use Rattle.soil.specs.declared.SoilRead.TheVariants.{Read, OutOfRange}
 use Rattle.soil.specs.Value.{allowed, cut}
 use Rattle.soil.specs.Kinds.{known, top_of, factor_of, value_allowed}
-use Rattle.soil.specs.Answers.{Answer, accepted, refused}
+use Rattle.soil.specs.Answers.{Answer, accepted, refused, answer_of}
 use Rattle.soil.specs.Taken.{taken, take_down, tangent_of, cohesion_of}
 use Rattle.soil.specs.Reading.{soil_allowed, soil_holding, soil_of, kind_of, value_of}
-use Rattle.soil.proofs.Values.{same_test, cut_le}
-use Rattle.soil.proofs.Patterns.{over, allowed_pattern}
+use Rattle.soil.proofs.Values.{same_test, cut_le, le_is_allowed}
+use Rattle.soil.proofs.Patterns.{over, sign_clear, no_nan, two, thousand, limits}
 
 -- ---- one value
 
@@ -94,6 +95,11 @@ pub allowed_other : (kind : ℕ) (x : Float) → (kind ≡ 0 → ⊥) → (kind 
 unfolding value_allowed
 allowed_other kind x n m = ap (λ (k : Bool). k && allowed (top_of kind) x) (unknown kind n m)
 
+pub take_down_other : (kind : ℕ) (x : Float) → (kind ≡ 0 → ⊥) → (kind ≡ 1 → ⊥) → take_down kind x ≡ refused
+take_down_other kind x n m = take_down_out kind x (allowed_other kind x n m)
+
+pub ruleset by_kind = (take_down_granular, take_down_cohesive, take_down_other, limits)
+
 -- ---- a pattern
 
 top_le : (kind : ℕ) → top_of kind ≤ 1000
@@ -113,36 +119,80 @@ allowed_none kind b h =
     (λ t. subst T (over (top_of kind) b (top_le kind) h) (and_r (known kind) (allowed (top_of kind) x) t))
     (λ t. absurd t)
 
-pub allowed_no_nan : (kind b : ℕ) → soil_allowed kind b ≡ true → T (not (nan_bits binary32 b))
+-- ---- a pattern with the sign bit clear, by the machine's comparison with the limit of its kind
+
+granular_test : (kind b : ℕ) → b < 2139095040 → kind ≡ 0 → le (of_bits binary32 b) (of_bits binary32 1073741824) ≡ soil_allowed kind b
 unfolding soil_allowed
-allowed_no_nan kind b e =
-    allowed_pattern (top_of kind) b (and_r (known kind) (allowed (top_of kind) (of_bits binary32 b)) (subst T (sym e) tt))
+granular_test kind b h k =
+    let x = of_bits binary32 b in
+    le_is_allowed x (of_bits binary32 1073741824) 2 two (sign_clear b (omega arith)) ∙ sym (allowed_granular kind x k)
 
-pub soil_granular : (kind b : ℕ) → soil_allowed kind b ≡ true → kind ≡ 0 → soil_of kind b ≡ Read (Granular (of_bits binary32 b))
+cohesive_test : (kind b : ℕ) → b < 2139095040 → kind ≡ 1 → le (of_bits binary32 b) (of_bits binary32 1148846080) ≡ soil_allowed kind b
+unfolding soil_allowed
+cohesive_test kind b h k =
+    let x = of_bits binary32 b in
+    le_is_allowed x (of_bits binary32 1148846080) 1000 thousand (sign_clear b (omega arith)) ∙ sym (allowed_cohesive kind x k)
+
+-- the soil that is read
+pub soil_granular : (kind b : ℕ) → b < 2139095040 → kind ≡ 0 → le (of_bits binary32 b) (of_bits binary32 1073741824) ≡ true →
+    soil_of kind b ≡ Some (Granular (of_bits binary32 b))
 unfolding soil_of
-soil_granular kind b e z = rw (e, eq-eqb kind 0 z)
+soil_granular kind b h k t = rw (sym (granular_test kind b h k) ∙ t, eq-eqb kind 0 k)
 
-pub soil_cohesive : (kind b : ℕ) → soil_allowed kind b ≡ true → (kind ≡ 0 → ⊥) → soil_of kind b ≡ Read (Cohesive (of_bits binary32 b))
+pub soil_cohesive : (kind b : ℕ) → b < 2139095040 → kind ≡ 1 → le (of_bits binary32 b) (of_bits binary32 1148846080) ≡ true →
+    soil_of kind b ≡ Some (Cohesive (of_bits binary32 b))
 unfolding soil_of
-soil_cohesive kind b e n = rw (e, ne_eqb kind 0 n)
+soil_cohesive kind b h k t = rw (sym (cohesive_test kind b h k) ∙ t, ne_eqb kind 0 (omega arith))
 
-pub soil_none : (kind b : ℕ) → soil_allowed kind b ≡ false → soil_of kind b ≡ OutOfRange
+-- no soil is
+soil_none : (kind b : ℕ) → soil_allowed kind b ≡ false → soil_of kind b ≡ None
 unfolding soil_of
 soil_none kind b e = rw e
 
-nothing_read : {s : Soil} → OutOfRange ≡ Read s → ⊥
+pub no_granular : (kind b : ℕ) → b < 2139095040 → kind ≡ 0 → le (of_bits binary32 b) (of_bits binary32 1073741824) ≡ false → soil_of kind b ≡ None
+no_granular kind b h k f = soil_none kind b (sym (granular_test kind b h k) ∙ f)
+
+pub no_cohesive : (kind b : ℕ) → b < 2139095040 → kind ≡ 1 → le (of_bits binary32 b) (of_bits binary32 1148846080) ≡ false → soil_of kind b ≡ None
+no_cohesive kind b h k f = soil_none kind b (sym (cohesive_test kind b h k) ∙ f)
+
+pub no_kind : (kind b : ℕ) → (kind ≡ 0 → ⊥) → (kind ≡ 1 → ⊥) → soil_of kind b ≡ None
+unfolding soil_allowed
+no_kind kind b n m = soil_none kind b (allowed_other kind (of_bits binary32 b) n m)
+
+pub no_pattern : (kind b : ℕ) → 2139095040 ≤ b → soil_of kind b ≡ None
+unfolding soil_allowed
+no_pattern kind b h = soil_none kind b (allowed_none kind b (omega arith))
+
+pub ruleset reading = (no_nan, soil_granular, soil_cohesive, no_granular, no_cohesive, no_kind, no_pattern)
+
+-- a soil is read where the kind and the value are in range
+pub some_soil : (kind b : ℕ) → is_some (soil_of kind b) ≡ soil_allowed kind b
+unfolding soil_of
+some_soil kind b = go (soil_allowed kind b)
+  where
+    go : (a : Bool) → is_some (cond a (Some (soil_holding kind (of_bits binary32 b))) None) ≡ a
+    go true = refl
+    go false = refl
+
+-- the value of an answer, 0 in a refusal
+pub value_or_0 : (o : Option ℕ) → unwrap_or o 0 ≡ (answer_of o).value
+unfolding answer_of accepted refused
+value_or_0 (Some v) = refl
+value_or_0 None = refl
+
+nothing_read : {s : Soil} → None ≡ Some s → ⊥
 nothing_read h = let z : ◌≡◌ {A = ℕ} 0 1 = cc in omega arith
 
 -- a soil that was read holds the kind and the value of its bits
-pub read_holds : (kind b : ℕ) (s : Soil) → soil_of kind b ≡ Read s → (soil_allowed kind b ≡ true) × (s ≡ soil_holding kind (of_bits binary32 b))
+pub read_holds : (kind b : ℕ) (s : Soil) → soil_of kind b ≡ Some s → (soil_allowed kind b ≡ true) × (s ≡ soil_holding kind (of_bits binary32 b))
 unfolding soil_of
 read_holds kind b s = go (soil_allowed kind b)
   where
-    go : (a : Bool) → cond a (Read (soil_holding kind (of_bits binary32 b))) OutOfRange ≡ Read s → (a ≡ true) × (s ≡ soil_holding kind (of_bits binary32 b))
+    go : (a : Bool) → cond a (Some (soil_holding kind (of_bits binary32 b))) None ≡ Some s → (a ≡ true) × (s ≡ soil_holding kind (of_bits binary32 b))
     go true h = (refl, cc)
     go false h = absurd (nothing_read h)
 
-pub read_kind : (kind b : ℕ) (s : Soil) → soil_of kind b ≡ Read s → kind_of s ≡ kind
+pub read_kind : (kind b : ℕ) (s : Soil) → soil_of kind b ≡ Some s → kind_of s ≡ kind
 unfolding soil_allowed soil_holding kind_of known
 read_kind kind b s h =
     let held = read_holds kind b s h in
@@ -153,7 +203,7 @@ read_kind kind b s h =
     go true e l = sym (eqb-true kind 0 e)
     go false e l = let n = eqb-false kind 0 e in omega arith
 
-pub read_value : (kind b : ℕ) (s : Soil) → soil_of kind b ≡ Read s → value_of s ≡ of_bits binary32 b
+pub read_value : (kind b : ℕ) (s : Soil) → soil_of kind b ≡ Some s → value_of s ≡ of_bits binary32 b
 unfolding soil_holding value_of
 read_value kind b s h = ap value_of (read_holds kind b s h).1 ∙ go (eqb kind 0)
   where
@@ -162,7 +212,7 @@ read_value kind b s h = ap value_of (read_holds kind b s h).1 ∙ go (eqb kind 0
     go false = refl
 
 -- the kind and the value of a soil that was read take down, with no refusal
-pub read_takes_down : (kind b : ℕ) (s : Soil) → soil_of kind b ≡ Read s → (take_down (kind_of s) (value_of s)).number ≡ 0
+pub read_takes_down : (kind b : ℕ) (s : Soil) → soil_of kind b ≡ Some s → (take_down (kind_of s) (value_of s)).number ≡ 0
 unfolding accepted soil_allowed
 read_takes_down kind b s h =
     rw (read_kind kind b s h, read_value kind b s h)

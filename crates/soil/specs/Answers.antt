@@ -1,8 +1,6 @@
 -- The answer of take-down in the terms of 01, "Calls" and "Who can make a job fail": the refusal's number, its offset, and the value.
 -- Assumes nothing.
-use Rattle.std.specs.Prelude.{ℕ}
-use Rattle.soil.specs.declared.TakeDown.{TakeDown}
-use Rattle.soil.specs.declared.TakeDown.TheVariants.{Value, OutOfRange}
+use Rattle.std.specs.Prelude.{ℕ, Option, Some, None}
 
 -- number 0: no refusal
 pub record Answer : Type 0 where
@@ -17,7 +15,8 @@ accepted v = record { number = 0; offset = 0; value = v }
 unfoldable pub refused : Answer
 refused = record { number = 5; offset = 0; value = 0 }
 
-unfoldable pub answer_of : TakeDown → Answer
+-- a value, or none where the kind or the value is out of range
+unfoldable pub answer_of : Option ℕ → Answer
 unfolding accepted refused
-answer_of (Value v) = accepted v
-answer_of OutOfRange = refused
+answer_of (Some v) = accepted v
+answer_of None = refused

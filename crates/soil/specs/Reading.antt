@@ -1,11 +1,9 @@
 -- A soil from its kind and the 32 bits of its value (01, "Job commands", 08, and "Soil and footing"). Assumes nothing.
-use Rattle.std.specs.Prelude.{ℕ, Bool, cond, eqb, Float}
+use Rattle.std.specs.Prelude.{ℕ, Bool, cond, eqb, Float, Option, Some, None}
 use Rattle.std.specs.Float.{binary32}
 use Rattle.std.specs.Float.Ieee.{of_bits}
 use Rattle.soil.specs.declared.Soil.{Soil}
 use Rattle.soil.specs.declared.Soil.TheVariants.{Granular, Cohesive}
-use Rattle.soil.specs.declared.SoilRead.{SoilRead}
-use Rattle.soil.specs.declared.SoilRead.TheVariants.{Read, OutOfRange}
 use Rattle.soil.specs.Kinds.{value_allowed}
 
 -- kind and value in range: what 08 asks of both, and take-down
@@ -17,9 +15,9 @@ soil_allowed kind bits = value_allowed kind (of_bits binary32 bits)
 unfoldable pub soil_holding : ℕ → Float → Soil
 soil_holding kind x = cond (eqb kind 0) (Granular x) (Cohesive x)
 
-unfoldable pub soil_of : ℕ → ℕ → SoilRead
+unfoldable pub soil_of : ℕ → ℕ → Option Soil
 unfolding soil_allowed soil_holding
-soil_of kind bits = cond (soil_allowed kind bits) (Read (soil_holding kind (of_bits binary32 bits))) OutOfRange
+soil_of kind bits = cond (soil_allowed kind bits) (Some (soil_holding kind (of_bits binary32 bits))) None
 
 -- the kind and the value of a soil
 unfoldable pub kind_of : Soil → ℕ

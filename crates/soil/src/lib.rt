@@ -29,20 +29,6 @@ pub enum Soil {
     Cohesive(f32),
 }
 
-// What take-down answers. `answer_of` gives 01's number, offset and value of each case.
-#[derive(Clone, Copy)]
-pub enum TakeDown {
-    Value(u32),
-    OutOfRange,
-}
-
-// A soil read from its kind and the 32 bits of its value.
-#[derive(Clone, Copy)]
-pub enum SoilRead {
-    Read(Soil),
-    OutOfRange,
-}
-
 // The value of a bit pattern, at most 1000.0, times `factor`, taken down. The value is digits times
 // 2 to the power of field - 150; in a field below 87 it is below 2 to the power of -40.
 fn whole(bits: u32, factor: u32) -> u32
@@ -60,8 +46,8 @@ fn whole(bits: u32, factor: u32) -> u32
 }
 
 // Take-down of `value` under the factor and the limit of its kind; `top` is the limit as a whole
-// number. A NaN is not at most the limit.
-fn take(value: f32, limit: f32, factor: u32) -> TakeDown
+// number. A NaN is not at most the limit. `answer_of` gives 01's number, offset and value of each case.
+fn take(value: f32, limit: f32, factor: u32) -> Option<u32>
     requires limit { T (allowed 1000 limit) }
     requires factor { factor ≤ 10000 }
     ensures { (top : ℕ) → HasValue limit false top 1 → answer_of result ≡ taken top factor value }
@@ -69,75 +55,61 @@ fn take(value: f32, limit: f32, factor: u32) -> TakeDown
     if value <= limit {
         let bits = f32::to_bits(value);
         if bits < 0x8000_0000 {
-            return TakeDown::Value(whole(bits, factor));
+            return Some(whole(bits, factor));
         }
     }
-    TakeDown::OutOfRange
+    None
 }
 
-// Take-down of one soil value.
-pub fn take_down(kind: u8, value: f32) -> TakeDown
+// Take-down of one soil value. The kind is the number that a caller in C gives; an enum for it would add a match of its own.
+#[tactic(auto, using(crate::proofs::Laws::by_kind), unfolding(crate::specs::Answers::answer_of))]
+pub fn take_down(kind: u8, value: f32) -> Option<u32>
     ensures { answer_of result ≡ take_down kind value }
 {
     match kind {
         0 => take(value, TANGENT_TOP, TANGENT_FACTOR),
         1 => take(value, STRENGTH_TOP, STRENGTH_FACTOR),
-        _ => TakeDown::OutOfRange,
-    }
-}
-
-// The value of an answer, 0 in a refusal.
-fn value_or_zero(answer: TakeDown) -> u32
-    ensures { result ≡ (answer_of answer).value }
-{
-    match answer {
-        TakeDown::Value(v) => v,
-        TakeDown::OutOfRange => 0,
+        _ => None,
     }
 }
 
 // t of a granular soil, 0 where the tangent is out of range.
+#[tactic(auto, using(crate::proofs::Laws::value_or_0, crate::proofs::Patterns::limits), unfolding(crate::specs::Taken::tangent_of, crate::specs::Taken::take_down))]
 pub fn tangent(value: f32) -> u32
     ensures { result ≡ tangent_of value }
 {
-    value_or_zero(take(value, TANGENT_TOP, TANGENT_FACTOR))
+    take(value, TANGENT_TOP, TANGENT_FACTOR).unwrap_or(0)
 }
 
 // s of a cohesive soil in Pa, 0 where the strength is out of range.
+#[tactic(auto, using(crate::proofs::Laws::value_or_0, crate::proofs::Patterns::limits), unfolding(crate::specs::Taken::cohesion_of, crate::specs::Taken::take_down))]
 pub fn cohesion(value: f32) -> u32
     ensures { result ≡ cohesion_of value }
 {
-    value_or_zero(take(value, STRENGTH_TOP, STRENGTH_FACTOR))
+    take(value, STRENGTH_TOP, STRENGTH_FACTOR).unwrap_or(0)
 }
 
-// Whether a kind and the 32 bits of a value are those of a soil. From 0x7f80_0000 on the bits are an
-// infinity's or a NaN's, or have the sign bit set.
-pub fn in_range(kind: u8, bits: u32) -> bool
-    ensures { result ≡ soil_allowed kind bits }
+// The soil of a kind and the 32 bits of its value, where both are in range. From 0x7f80_0000 on the bits
+// are an infinity's or a NaN's, or have the sign bit set.
+#[tactic(auto, using(crate::proofs::Laws::reading))]
+pub fn from_bits(kind: u8, bits: u32) -> Option<Soil>
+    ensures { result ≡ soil_of kind bits }
 {
     if bits >= 0x7f80_0000 {
-        return false;
+        return None;
     }
     let value = f32::from_bits(bits);
     match kind {
-        0 => value <= TANGENT_TOP,
-        1 => value <= STRENGTH_TOP,
-        _ => false,
+        0 if value <= TANGENT_TOP => Some(Soil::Granular(value)),
+        1 if value <= STRENGTH_TOP => Some(Soil::Cohesive(value)),
+        _ => None,
     }
 }
 
-// The soil of a kind and the 32 bits of its value.
-pub fn from_bits(kind: u8, bits: u32) -> SoilRead
-    ensures { result ≡ soil_of kind bits }
+// Whether a kind and the 32 bits of a value are those of a soil.
+#[tactic(auto, using(crate::proofs::Laws::some_soil))]
+pub fn in_range(kind: u8, bits: u32) -> bool
+    ensures { result ≡ soil_allowed kind bits }
 {
-    if in_range(kind, bits) {
-        let value = f32::from_bits(bits);
-        if kind == 0 {
-            SoilRead::Read(Soil::Granular(value))
-        } else {
-            SoilRead::Read(Soil::Cohesive(value))
-        }
-    } else {
-        SoilRead::OutOfRange
-    }
+    from_bits(kind, bits).is_some()
 }

@@ -2,7 +2,7 @@
 pub mod Digits
 pub mod DigitBytes
 pub mod Signs
-mod Backwards
+pub mod Printed
 mod RowSteps
 mod Labels
 pub mod Lengths

@@ -1,182 +1,110 @@
-// The text of the listing program, written into a lent slice: numbers in decimal, and the lines of rows, totals and refusals.
-// 01, "Figures to hold to". Each call writes from a position on and answers the position after its text.
+// The text of the listing program: the lines of rows, totals and refusals, and the listing written into a lent slice.
+// 01, "Figures to hold to".
 #![tactic(auto)]
 
-ghost use Rattle.std.specs.Prelude.{◌≡◌, [], ◌∷◌, ◌++◌, ◌+◌, ◌*◌, ◌<◌, ◌≤◌, length};
-ghost use Rattle.text.specs.Decimal.{digit, decimal, signed_decimal};
-ghost use Rattle.text.specs.Lines.{row_line, row_words, rows_text, totals_line, refused_line, listing_text};
-ghost use Rattle.slices.specs.Written.{PutsBefore, Writes, WritesAtMost};
+ghost use Rattle.std.specs.Prelude.{◌≡◌, ◌++◌, ◌+◌, ◌*◌, ◌≤◌, length};
+ghost use Rattle.arrayvec.specs.ArrayString.{array_string_len};
+ghost use Rattle.text.specs.Decimal.{decimal, signed_decimal};
+ghost use Rattle.text.specs.Lines.{row_line, rows_text, totals_line, refused_line, listing_text};
+ghost use Rattle.slices.specs.Written.{Writes, WritesAtMost};
 
-// The byte of a digit.
-fn digit_byte(value: u64) -> u8
-    requires { value < 10 }
-    ensures { result ≡ digit value }
-{
-    48 + value as u8
-}
+use arrayvec::ArrayString;
+use itoa::Buffer;
+use totals::Totals;
 
-// The number of digits of a value.
-pub fn places(value: u64) -> usize
-    ensures { result ≡ length (decimal value) }
+// A word, and the text after it. By `itoa`: no clause of `write!` says that it succeeds, so with it this function could fail.
+fn push_word(line: &mut ArrayString<168>, word: i64, after: &str)
+    requires { array_string_len line.old + (20 + length after.now) ≤ 168 }
+    ensures text { line.new.bytes ≡ line.old.bytes ++ (signed_decimal word ++ after.now) }
+    ensures short { array_string_len line.new ≤ array_string_len line.old + (20 + length after.now) }
 {
-    let mut front = value;
-    let mut count: usize = 1;
-    while front >= 10 {
-        front = front / 10;
-        count += 1;
-    }
-    count
-}
-
-// A number up to a position, its last digit first; answers the position of the first one.
-pub fn put_decimal_before(out: &mut [u8], end: usize, value: u64) -> usize
-    requires { (length (decimal value) ≤ end) × (end ≤ length out.old) }
-    ensures { PutsBefore out.old end (decimal value) out.new result }
-{
-    let mut last = end - 1;
-    let mut rest = value;
-    while rest >= 10 {
-        out[last] = digit_byte(rest % 10);
-        rest = rest / 10;
-        last -= 1;
-    }
-    out[last] = digit_byte(rest);
-    last
-}
-
-// A number.
-pub fn put_decimal(out: &mut [u8], at: usize, value: u64) -> usize
-    requires { at + length (decimal value) ≤ length out.old }
-    ensures { Writes out.old at (decimal value) out.new result }
-{
-    let end = at + places(value);
-    put_decimal_before(out, end, value);
-    end
-}
-
-// A signed number.
-pub fn put_signed(out: &mut [u8], at: usize, value: i64) -> usize
-    requires { at + length (signed_decimal value) ≤ length out.old }
-    ensures { Writes out.old at (signed_decimal value) out.new result }
-{
-    let number = exact::magnitude(value);
-    if value < 0 {
-        out[at] = b'-';
-        put_decimal(out, at + 1, number)
-    } else {
-        put_decimal(out, at, number)
-    }
-}
-
-// A signed number up to a position; answers the position of its first character.
-pub fn put_signed_before(out: &mut [u8], end: usize, value: i64) -> usize
-    requires { (length (signed_decimal value) ≤ end) × (end ≤ length out.old) }
-    ensures { PutsBefore out.old end (signed_decimal value) out.new result }
-{
-    let first = put_decimal_before(out, end, exact::magnitude(value));
-    if value < 0 {
-        out[first - 1] = b'-';
-        return first - 1;
-    }
-    first
-}
-
-// A text as it stands.
-pub fn put_text(out: &mut [u8], at: usize, text: &[u8]) -> usize
-    requires { at + length text.now ≤ length out.old }
-    ensures { Writes out.old at text.now out.new result }
-{
-    let mut i: usize = 0;
-    while i < text.len() {
-        out[at + i] = text[i];
-        i += 1;
-    }
-    at + i
-}
-
-// A label, and the number after it.
-fn put_labelled(out: &mut [u8], at: usize, label: &[u8], value: u64) -> usize
-    requires { at + (length label.now + 20) ≤ length out.old }
-    ensures { WritesAtMost (length label.now + 20) out.old at (label.now ++ decimal value) out.new result }
-{
-    let next = put_text(out, at, label);
-    put_decimal(out, next, value)
-}
-
-// A word of a row, and the byte after it.
-fn put_word(out: &mut [u8], at: usize, value: i64, after: u8) -> usize
-    requires { at + 21 ≤ length out.old }
-    ensures { WritesAtMost 21 out.old at (signed_decimal value ++ after ∷ []) out.new result }
-{
-    let next = put_signed(out, at, value);
-    out[next] = after;
-    next + 1
+    line.push_str(Buffer::new().format(word));
+    line.push_str(after);
 }
 
 // The line of a row.
-pub fn put_row(out: &mut [u8], at: usize, rows: &[i64], row: usize) -> usize
-    requires { (8 * row + 8 ≤ length rows.now) × (at + 168 ≤ length out.old) }
-    ensures { WritesAtMost 168 out.old at (row_line (row_words rows.now row)) out.new result }
+fn row_line(row: &[i64; 8]) -> ArrayString<168>
+    ensures { result.bytes ≡ row_line row.now }
 {
-    let first = 8 * row;
-    let mut next = at;
-    let mut i: usize = 0;
-    while i < 7 {
-        next = put_word(out, next, rows[first + i], b' ');
-        i += 1;
+    let mut line = ArrayString::new();
+    for word in &row[..7] {
+        push_word(&mut line, *word, " ");
     }
-    put_word(out, next, rows[first + 7], b'\n')
+    push_word(&mut line, row[7], "\n");
+    line
 }
 
-// The lines of the first rows.
-pub fn put_rows(out: &mut [u8], at: usize, rows: &[i64], count: usize) -> usize
-    requires { (8 * count ≤ length rows.now) × (at + 168 * count ≤ length out.old) }
-    ensures { WritesAtMost (168 * count) out.old at (rows_text rows.now count) out.new result }
+// A label, and the number after it.
+fn push_labelled<const N: usize>(line: &mut ArrayString<N>, label: &str, value: u64)
+    requires { array_string_len line.old + (length label.now + 20) ≤ N }
+    ensures text { line.new.bytes ≡ line.old.bytes ++ (label.now ++ decimal value) }
+    ensures short { array_string_len line.new ≤ array_string_len line.old + (length label.now + 20) }
 {
-    let mut next = at;
-    let mut row: usize = 0;
-    while row < count {
-        next = put_row(out, next, rows, row);
-        row += 1;
-    }
-    next
+    line.push_str(label);
+    line.push_str(Buffer::new().format(value));
 }
 
 // The totals.
-pub fn put_totals(out: &mut [u8], at: usize, rows: u64, failed: u64, checks: u64) -> usize
-    requires { at + 82 ≤ length out.old }
-    ensures { WritesAtMost 82 out.old at (totals_line rows failed checks) out.new result }
+fn totals_line(totals: Totals) -> ArrayString<82>
+    ensures { result.bytes ≡ totals_line totals.rows totals.failed totals.checks }
 {
-    let rows_end = put_labelled(out, at, b"rows ", rows);
-    let failed_end = put_labelled(out, rows_end, b" failed ", failed);
-    let checks_end = put_labelled(out, failed_end, b" checks ", checks);
-    out[checks_end] = b'\n';
-    checks_end + 1
+    let mut line = ArrayString::new();
+    push_labelled(&mut line, "rows ", totals.rows as u64);
+    push_labelled(&mut line, " failed ", totals.failed);
+    push_labelled(&mut line, " checks ", totals.checks);
+    line.push('\n');
+    line
 }
 
 // A refusal.
-pub fn put_refused(out: &mut [u8], at: usize, number: u64, offset: u64) -> usize
-    requires { at + 50 ≤ length out.old }
-    ensures { WritesAtMost 50 out.old at (refused_line number offset) out.new result }
+fn refused_line(number: u64, offset: u64) -> ArrayString<50>
+    ensures { result.bytes ≡ refused_line number offset }
 {
-    let number_end = put_labelled(out, at, b"refused ", number);
-    let offset_end = put_labelled(out, number_end, b" ", offset);
-    out[offset_end] = b'\n';
-    offset_end + 1
+    let mut line = ArrayString::new();
+    push_labelled(&mut line, "refused ", number);
+    push_labelled(&mut line, " ", offset);
+    line.push('\n');
+    line
 }
 
-// The listing of an accepted job: its rows, then the totals.
-pub fn put_listing(
-    out: &mut [u8],
-    at: usize,
-    rows: &[i64],
-    count: usize,
-    failed: u64,
-    checks: u64,
-) -> usize
-    requires { (8 * count ≤ length rows.now) × (at + (168 * count + 82) ≤ length out.old) }
-    ensures { WritesAtMost (168 * count + 82) out.old at (listing_text rows.now count failed checks) out.new result }
+// A text from a position on; answers the position after it. The slice and the position are no struct: this function alone takes both.
+fn put_text(out: &mut [u8], at: usize, text: &str) -> usize
+    requires { at + length text.now ≤ length out.old }
+    ensures { Writes out.old at text.now out.new result }
 {
-    let next = put_rows(out, at, rows, count);
-    put_totals(out, next, count as u64, failed, checks)
+    let end = at + text.len();
+    out[at..end].copy_from_slice(text.as_bytes());
+    end
+}
+
+// The lines of the first rows. Rows and their number come as the two values that C gives.
+fn put_rows(out: &mut [u8], rows: &[i64], count: usize) -> usize
+    requires words { 8 * count ≤ length rows.now }
+    requires room { 168 * count ≤ length out.old }
+    ensures { WritesAtMost (168 * count) out.old 0 (rows_text rows.now count) out.new result }
+{
+    let first = slices::first_rows(rows, count);
+    let mut at = 0;
+    for row in first {
+        at = put_text(out, at, row_line(row).as_str());
+    }
+    at
+}
+
+// The listing of an accepted job, from the start of the slice: the rows of these totals, then the totals. Answers its length.
+pub fn put_listing(out: &mut [u8], rows: &[i64], totals: Totals) -> usize
+    requires words { 8 * totals.rows ≤ length rows.now }
+    requires room { 168 * totals.rows + 82 ≤ length out.old }
+    ensures { WritesAtMost (168 * totals.rows + 82) out.old 0 (listing_text rows.now totals.rows totals.failed totals.checks) out.new result }
+{
+    let at = put_rows(out, rows, totals.rows);
+    put_text(out, at, totals_line(totals).as_str())
+}
+
+// The line of a refusal, from the start of the slice. Answers its length.
+pub fn put_refused(out: &mut [u8], number: u64, offset: u64) -> usize
+    requires { 50 ≤ length out.old }
+    ensures { WritesAtMost 50 out.old 0 (refused_line number offset) out.new result }
+{
+    put_text(out, 0, refused_line(number, offset).as_str())
 }

@@ -1,16 +1,43 @@
 -- The steps of the count: what holds before each row, and at its end. Assumes nothing.
-use mathlib.Core.Path.{◌≡◌, refl, ap}
+use mathlib.Core.Path.{◌≡◌, refl, ap, ◌∙◌}
 use mathlib.Core.Bool.{true}
-use mathlib.Core.List.{List}
+use mathlib.Core.List.{List, []}
 use Prim.Native.Nat.{ℕ, ◌+◌, ◌*◌, ◌≤◌, ◌<◌, zero-le}
 use native.Mathlib.Nat.{le_antisymm}
 use native.Mathlib.Numerals.{add-one}
 use native.Mathlib.Omega.{arith}
-use lib.IntN.{ℤ}
+use lib.IntN.{ℤ, pos}
+use lib.ListN.{length, get_or, drop}
+use lib.Seq.{get_or-take, get_or-drop}
+use Rattle.std.specs.Simd.{first_chunks}
+use Rattle.slices.proofs.Rows.{length_chunks, chunk_at}
+use Rattle.totals.specs.declared.Totals.{Totals}
 use Rattle.totals.specs.Rows.{verdict_at, good_verdict, row_failed, checks_of, verdict_sum, rows_failed, checks_failed}
-use Rattle.totals.specs.Counted.{counted_in}
+use Rattle.totals.specs.Counted.{counted_in, GoodRows}
 use Rattle.totals.proofs.Verdicts.{checks_le}
 use Rattle.totals.proofs.Sums.{rows_failed_le}
+
+-- word 7 of the row that the loop has reached is that row's verdict, which is in its range
+pub record Reached (words : List ℤ) (n i : ℕ) (word : ℤ) : Type 0 where
+  pub within : i < n
+  pub is : word ≡ verdict_at words i
+  pub good : good_verdict (verdict_at words i) ≡ true
+
+pub reached : (words : List ℤ) (n i : ℕ) (rows : List (List ℤ)) → rows ≡ first_chunks 8 n words → GoodRows words n → i < length rows → Reached words n i (get_or (get_or rows i []) 7 (pos 0))
+unfolding verdict_at
+reached words n i rows e good h =
+    let within : i < n = omega (arith, ap length e, length_chunks 8 n words) in
+    record {
+      within = within;
+      is =
+          ap (λ r. get_or (get_or r i []) 7 (pos 0)) e ∙ ap (λ r. get_or r 7 (pos 0)) (chunk_at n i words [] within)
+          ∙ get_or-take 8 (drop (8 * i) words) 7 (pos 0) (omega arith)
+          ∙ get_or-drop (8 * i) words 7 (pos 0);
+      good = good.good i within;
+    }
+
+abbrev pub with_rows : (n failed checks : ℕ) → Totals
+with_rows n failed checks = record { rows = n; failed = failed; checks = checks }
 
 module _ (rows : List ℤ) (n : ℕ) where
   -- the rows before `row` are counted

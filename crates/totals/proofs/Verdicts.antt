@@ -1,18 +1,19 @@
 -- One verdict: its range, and how many checks it can hold. Assumes nothing.
-use mathlib.Core.Path.{◌≡◌, refl, sym, ap}
-use mathlib.Core.Bool.{true, true≢false}
+use mathlib.Core.Path.{◌≡◌, refl, sym, ap, ◌∙◌}
+use mathlib.Core.Bool.{Bool, true, false, not, true≢false}
 use mathlib.Core.Logic.{◌⊎◌, inl, inr}
 use Prim.Native.Nat.{ℕ, zero, suc, ◌*◌, ◌/◌, ◌≤◌, ◌<◌, zero-le}
 use native.Mathlib.Nat.{eq-zero-or-pos, div-add-mod', le_refl, zero-lt-suc, not-suc-le-zero, le_trans}
 use native.Mathlib.Omega.{arith}
-use borrow.Author.Tests.{le-leb, leb-true}
+use borrow.Author.Tests.{le-leb, leb-true, eqb-true, eqb-false}
 use lib.Arith.{half_le}
 use lib.Count.{ones_in, ones, ones-le, ones_step}
-use lib.Dec.{T}
+use lib.Dec.{T, eqb}
 use lib.IntN.{ℤ, pos, negsuc, nat_abs}
 use lib.Signed.{non_neg}
+use mir.Facts.{to_z-of_z}
 use mir.Syntax.{w64}
-use mir.Val.{SFits}
+use mir.Val.{SFits, bool_byte, to_z, of_z}
 use Rattle.totals.specs.Rows.{good_verdict, row_failed, checks_of}
 
 -- ---- the range
@@ -47,6 +48,14 @@ unfolding row_failed
 row_not_passed (pos zero) h = absurd (h refl)
 row_not_passed (pos (suc v)) h = refl
 row_not_passed (negsuc v) h = refl
+
+-- a word that is not 0 counts one, as the language's byte of that test
+pub failed_byte : (v : ℤ) → SFits w64 v → bool_byte (not (eqb (of_z w64 v) 0)) ≡ row_failed v
+failed_byte v f = go (eqb (of_z w64 v) 0) refl
+  where
+    go : (b : Bool) → eqb (of_z w64 v) 0 ≡ b → bool_byte (not b) ≡ row_failed v
+    go true e = sym (row_passed v (sym (to_z-of_z f) ∙ ap (to_z w64) (eqb-true _ 0 e)))
+    go false e = sym (row_not_passed v (λ z. eqb-false _ 0 e (ap (of_z w64) z)))
 
 pub row_failed_le : (v : ℤ) → row_failed v ≤ 1
 unfolding row_failed

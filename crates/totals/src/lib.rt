@@ -2,7 +2,7 @@
 #![tactic(auto)]
 
 ghost use Rattle.std.specs.Prelude.{true, ◌≡◌, ◌*◌, ◌≤◌, length};
-ghost use Rattle.totals.specs.Rows.{good_verdict, row_failed, checks_of};
+ghost use Rattle.totals.specs.Rows.{good_verdict, checks_of};
 ghost use Rattle.totals.specs.Counted.{counted_in, GoodRows};
 
 // Rows; of these the rows failed; and their checks failed.
@@ -11,13 +11,6 @@ pub struct Totals {
     pub rows: usize,
     pub failed: u64,
     pub checks: u64,
-}
-
-// 1 for a row that failed, 0 for one that passed.
-fn row_failed(verdict: i64) -> u64
-    ensures { result ≡ row_failed verdict }
-{
-    if verdict == 0 { 0 } else { 1 }
 }
 
 // The checks that failed in a row: the ones of its verdict, which in its range has eight bits.
@@ -29,24 +22,22 @@ fn checks_failed(verdict: i64) -> u64
     ones as u64
 }
 
-// The totals of the first n rows, whose verdicts are in their range.
+// The totals of the first n rows, whose verdicts are in their range. Rows and their number come as the two values that C gives.
 pub fn count(rows: &[i64], n: usize) -> Totals
     requires room { 8 * n ≤ length rows.now }
     requires verdicts { GoodRows rows.now n }
     ensures { result ≡ counted_in rows.now n }
 {
-    let mut failed: u64 = 0;
-    let mut checks: u64 = 0;
-    let mut row: usize = 0;
-    while row < n {
-        let verdict = rows[8 * row + 7];
-        failed += row_failed(verdict);
-        checks += checks_failed(verdict);
-        row += 1;
-    }
-    Totals {
+    let first = slices::first_rows(rows, n);
+    let mut totals = Totals {
         rows: n,
-        failed,
-        checks,
+        failed: 0,
+        checks: 0,
+    };
+    for row in first {
+        let verdict = row[7];
+        totals.failed += u64::from(verdict != 0);
+        totals.checks += checks_failed(verdict);
     }
+    totals
 }

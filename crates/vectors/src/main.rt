@@ -2,61 +2,45 @@
 // by byte, with the file NAME.out. It prints each name that does not agree, and then how many agree.
 #![tactic(auto)]
 
-ghost use Rattle.std.specs.Prelude.{◌+◌, ◌≤◌, length};
+ghost use Rattle.std.specs.Prelude.{◌≤◌, length};
 ghost use Rattle.input.specs.Reading.{bytes_read};
 ghost use Rattle.vectors.specs.Agreement.{Agreement};
 
+use arrayvec::ArrayString;
 use std::env::{Env, FillError};
 use std::rt::Files;
 use std::{fs, io, str};
 
 // Whether a text is the listing of a job.
-fn agrees(job: &[u8], text: &[u8], out: &mut [u8]) -> bool
-    requires { 172114 ≤ length out.old }
+fn agrees(job: &[u8], text: &[u8]) -> bool
     ensures { Agreement job.now text.now result }
 {
-    let n = report::listing_text(job, out);
+    let mut out = [0u8; 172114];
+    let n = report::listing_text(job, &mut out);
     &out[..n] == text
 }
 
-// The bytes of the file whose path is a name and an ending. The path holds the name; the ending is put after it.
-fn read_file(
-    rt: &impl Files,
-    path: &mut [u8],
-    name: usize,
-    ending: &[u8],
-    buffer: &mut [u8],
-) -> io::Result<usize>
-    requires { name + length ending.now ≤ length path.old }
+// The bytes of the file whose path is a name and an ending.
+fn read_file(rt: &impl Files, name: &str, ending: &str, buffer: &mut [u8]) -> io::Result<usize>
     ensures { bytes_read result ≤ length buffer.new }
 {
-    let end = name + ending.len();
-    path[name..end].copy_from_slice(ending);
-    let Ok(path) = str::from_utf8(&path[..end]) else {
-        return Err(io::Error::from(io::ErrorKind::InvalidFilename));
-    };
-    let mut file = fs::open(rt, path)?;
+    let mut path = ArrayString::<4096>::new();
+    for part in [name, ending] {
+        path.try_push_str(part)
+            .map_err(|_| io::Error::from(io::ErrorKind::InvalidFilename))?;
+    }
+    let mut file = fs::open(rt, path.as_str())?;
     input::read_all(&mut file, buffer)
 }
 
-// Whether a vector agrees; one that cannot be read does not.
-fn vector_agrees(
-    rt: &impl Files,
-    path: &mut [u8],
-    name: usize,
-    job: &mut [u8],
-    text: &mut [u8],
-) -> bool
-    requires { name + 4 ≤ length path.old }
-{
-    let Ok(job_end) = read_file(rt, path, name, b".job", job) else {
-        return false;
-    };
-    let Ok(text_end) = read_file(rt, path, name, b".out", text) else {
-        return false;
-    };
-    let mut out = [0u8; 172114];
-    agrees(&job[..job_end], &text[..text_end], &mut out)
+// Whether a vector agrees.
+fn vector_agrees(rt: &impl Files, name: &[u8]) -> io::Result<bool> {
+    let name = str::from_utf8(name).map_err(|_| io::Error::from(io::ErrorKind::InvalidFilename))?;
+    let mut job = [0u8; 65537];
+    let mut text = [0u8; 172115];
+    let job_end = read_file(rt, name, ".job", &mut job)?;
+    let text_end = read_file(rt, name, ".out", &mut text)?;
+    Ok(agrees(&job[..job_end], &text[..text_end]))
 }
 
 // A write that fails changes no count.
@@ -65,42 +49,35 @@ fn tell(rt: &impl Print, name: &[u8]) {
     let _ = rt.write_all(b" does not agree\n");
 }
 
-// Whether the vector that an argument names agrees; tells its name where not. Of a name longer than the path nothing is read.
-fn run_vector(rt: &(impl Files + Env + Print), argument: usize, path: &mut [u8]) -> bool {
-    let name = rt.arg(argument, path).unwrap_or(path.len());
-    if path.len() - name < 4 {
-        tell(rt, &path[..name]);
-        return false;
-    }
-    let mut job = [0u8; 65537];
-    let mut text = [0u8; 172115];
-    let agree = vector_agrees(rt, path, name, &mut job, &mut text);
+// Whether the vector that an argument names agrees; tells its name where not. One that cannot be read does not, as of a name that is
+// too long for a path.
+fn run_vector(rt: &(impl Files + Env + Print), argument: usize) -> bool {
+    let mut buffer = [0u8; 4096];
+    let length = rt.arg(argument, &mut buffer).unwrap_or(buffer.len());
+    let name = &buffer[..length];
+    let agree = vector_agrees(rt, name).unwrap_or(false);
     if !agree {
-        tell(rt, &path[..name]);
+        tell(rt, name);
     }
     agree
 }
 
 // How many vectors agree, of as many arguments.
 fn run_vectors(rt: &(impl Files + Env + Print), count: usize) -> usize {
-    let mut agree: usize = 0;
-    for argument in 0..count {
-        let mut path = [0u8; 4096];
-        if run_vector(rt, argument + 1, &mut path) {
-            agree += 1;
-        }
-    }
-    agree
+    (1..=count)
+        .filter(|argument| run_vector(rt, *argument))
+        .count()
+}
+
+fn has_argument(rt: &impl Env, argument: usize) -> bool {
+    !matches!(rt.arg(argument, &mut []), Err(FillError::NotPresent))
 }
 
 // How many arguments follow the program's name.
 fn argument_count(rt: &impl Env) -> usize {
-    for argument in 1..usize::MAX {
-        if let Err(FillError::NotPresent) = rt.arg(argument, &mut []) {
-            return argument - 1;
-        }
-    }
-    usize::MAX - 1
+    (1..usize::MAX)
+        .take_while(|argument| has_argument(rt, *argument))
+        .count()
 }
 
 fn main(rt: HostRuntime) {

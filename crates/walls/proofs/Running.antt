@@ -8,7 +8,6 @@ use Rattle.exact.proofs.Rounding.{up_same}
 use Rattle.coefficient.specs.declared.Limited.{Limited}
 use Rattle.coefficient.specs.Coefficient.{fraction, CoefficientRange}
 use Rattle.coefficient.proofs.Bounds.{proper, num_le, product_le}
-use Rattle.claims.specs.Verdict.{flag}
 use Rattle.walls.specs.declared.Wall.{Wall}
 use Rattle.walls.specs.declared.WallBase.{WallBase}
 use Rattle.walls.specs.declared.Storey.{Storey}
@@ -39,10 +38,10 @@ wall_of_range q b r =
 
 -- the running values are those of the base, from the coefficient and its product
 pub wall_is : (q : ℕ) (b : WallBase) (a : Limited) (v : ℕ) → fraction a.value ≡ wall_coefficient q b → a.governs ≡ wall_governed q b →
-    v ≡ up_f (fraction a.value *F whole b.shear) → (t : ℕ) → t ≡ flag 1 a.governs →
-    ◌≡◌ {A = Wall} (record { coefficient = a.value; shear = v; resistance = b.resistance; governs = t }) (wall_of q b)
+    v ≡ up_f (fraction a.value *F whole b.shear) →
+    ◌≡◌ {A = Wall} (record { coefficient = a.value; shear = v; resistance = b.resistance; governs = a.governs }) (wall_of q b)
 unfolding wall_of
-wall_is q b a v e g f t k = rw (f, k, g) (ap made e)
+wall_is q b a v e g f = rw (f, g) (ap made e)
   where
     made : Fraction → Wall
     made x =
@@ -50,7 +49,7 @@ wall_is q b a v e g f t k = rw (f, k, g) (ap made e)
           coefficient = record { num = x.num; den = x.den };
           shear = up_f (x *F whole b.shear);
           resistance = b.resistance;
-          governs = flag 1 (wall_governed q b);
+          governs = wall_governed q b;
         }
 
 pub base_row_of : (q : ℕ) (b : WallBase) → base_row_from (fraction (wall_of q b).coefficient) (wall_of q b).shear (wall_of q b).governs b ≡ base_row q b

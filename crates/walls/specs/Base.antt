@@ -39,22 +39,22 @@ abbrev pub exact_base_moment : ℕ → WallBase → Exact
 exact_base_moment q b =
     smaller_of (larger_of (value (signed (wall_coefficient q b *F whole b.moment))) (value (signed (ratio b.resistance 3)))) (value (whole_s (pos b.resistance)))
 
--- The row from a, W and the word that tells whether the cap governs a. Words: V, VR, moment, MR, and that word; bit 1 where V exceeds
--- VR, bit 128 where the length is not above 4 times the thickness.
-unfoldable pub base_row_from : Fraction → ℕ → ℕ → WallBase → Row
+-- The row from a, W and whether the cap governs a. Words: V, VR, moment, MR, and 1 where the cap governs; bit 1 where V exceeds VR,
+-- bit 128 where the length is not above 4 times the thickness.
+unfoldable pub base_row_from : Fraction → ℕ → Bool → WallBase → Row
 base_row_from a base governs b =
     record {
       word2 = pos base;
       word3 = pos b.strength;
       word4 = pos (design_moment a 1000 b.moment b.resistance);
       word5 = pos b.resistance;
-      word6 = pos governs;
+      word6 = pos (flag 1 governs);
       verdict = pos (flag 1 (ltb b.strength base) + flag 128 (leb b.length (4 * b.thickness)));
     }
 
 unfoldable pub base_row : ℕ → WallBase → Row
 unfolding base_row_from
-base_row q b = base_row_from (wall_coefficient q b) (base_shear q b) (flag 1 (wall_governed q b)) b
+base_row q b = base_row_from (wall_coefficient q b) (base_shear q b) (wall_governed q b) b
 
 -- one check, V against VR, within 1; the moment is in no check
 unfoldable pub base_claims : ℕ → WallBase → Row → Claims

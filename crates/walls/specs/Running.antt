@@ -3,7 +3,6 @@
 use Rattle.std.specs.Prelude.{◌≡◌, ℕ, ◌≤◌, ◌<◌}
 use Rattle.exact.specs.Fraction.{◌≈F◌}
 use Rattle.coefficient.specs.Coefficient.{fraction}
-use Rattle.claims.specs.Verdict.{flag}
 use Rattle.walls.specs.declared.Wall.{Wall}
 use Rattle.walls.specs.declared.WallBase.{WallBase}
 use Rattle.walls.specs.Base.{wall_coefficient, wall_governed, base_shear}
@@ -15,7 +14,7 @@ wall_of q b =
       coefficient = record { num = (wall_coefficient q b).num; den = (wall_coefficient q b).den };
       shear = base_shear q b;
       resistance = b.resistance;
-      governs = flag 1 (wall_governed q b);
+      governs = wall_governed q b;
     }
 
 -- what the rows ask of them, met by those of every base in range

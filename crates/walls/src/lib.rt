@@ -5,7 +5,6 @@
 ghost use Rattle.std.specs.Prelude.{◌≡◌, ◌*◌, ◌^◌, ◌≤◌, ◌<◌};
 ghost use Rattle.exact.specs.Quotient.{up};
 ghost use Rattle.coefficient.specs.Coefficient.{fraction, ProductFits};
-ghost use Rattle.cubes.specs.Cube.{LentCubes};
 ghost use Rattle.cubes.specs.Root.{least_root};
 ghost use Rattle.walls.specs.Base.{design_moment, base_row_from, WallBaseRange};
 ghost use Rattle.walls.specs.Storey.{design_shear, storey_row_from, StoreyRange};
@@ -13,6 +12,7 @@ ghost use Rattle.walls.specs.Running.{wall_of, WallRange};
 
 use claims::Row;
 use coefficient::Quotient;
+use cubes::Cubes;
 
 // Operands of a wall base: length, thickness, MR, ME, VE, VR.
 #[derive(Clone, Copy)]
@@ -36,13 +36,14 @@ pub struct Storey {
     pub resistance: u32,
 }
 
-// The running values of the latest wall: W, MR, a; and 1 where q governs a, else 0, for the base's own row. In this order and with this
-// width the struct has no gap.
+// The running values of the latest wall: W, MR; whether q governs a, for the base's own row; a. The last two are no `Limited`: only the
+// base's row asks for the flag, and each use of a would name one field more.
+// `WallRange` is no ghost field: `wall_of` of specs/ makes the running values of any base, in range or not.
 #[derive(Clone, Copy)]
 pub struct Wall {
     pub shear: u64,
     pub resistance: u32,
-    pub governs: u32,
+    pub governs: bool,
     pub coefficient: Quotient,
 }
 
@@ -58,16 +59,17 @@ pub fn wall_of(behaviour: u32, base: WallBase) -> Wall
         coefficient: a,
         shear,
         resistance: base.resistance,
-        governs: claims::flagged(1, limited.governs) as u32,
+        governs: limited.governs,
     }
 }
 
-// k·x/3000, up.
+// k·x/3000, up. A function of its own beside `coefficient::product_up`: x has 64 bits here.
+#[tactic(auto, using(exact::proofs::Rounding::ceil_is))]
 fn third_up(k: u64, x: u64) -> u64
     requires { k * x < 2 ^ 64 }
     ensures { result ≡ up (k * x) 3000 }
 {
-    exact::ceil_div_unsigned(k * x, 3000)
+    (k * x).div_ceil(3000)
 }
 
 // Larger of a·VE up and k·W/3000 up.
@@ -76,7 +78,7 @@ fn design_shear(a: Quotient, k: u64, shear: u32, base: u64) -> u64
     requires third { k * base < 2 ^ 64 }
     ensures { result ≡ design_shear (fraction a) k shear base }
 {
-    exact::larger(coefficient::product_up(a, shear), third_up(k, base))
+    coefficient::product_up(a, shear).max(third_up(k, base))
 }
 
 // Larger of a·ME up and k·MR/3000 up, at most MR.
@@ -85,10 +87,8 @@ fn design_moment(a: Quotient, k: u64, moment: u32, resistance: u64) -> u64
     requires third { k * resistance < 2 ^ 64 }
     ensures { result ≡ design_moment (fraction a) k moment resistance }
 {
-    exact::smaller(
-        exact::larger(coefficient::product_up(a, moment), third_up(k, resistance)),
-        resistance,
-    )
+    let uncapped = coefficient::product_up(a, moment).max(third_up(k, resistance));
+    uncapped.min(resistance)
 }
 
 // The row of the base that the running values are of.
@@ -99,18 +99,12 @@ pub fn base_row(wall: Wall, base: WallBase) -> Row
 {
     let a = wall.coefficient;
     let v = wall.shear;
-    let m = design_moment(a, 1000, base.moment, base.resistance as u64);
-    let failed = (base.strength as u64) < v;
-    let short = (base.length as u64) <= 4 * (base.thickness as u64);
-    let verdict = claims::verdict_of(1, failed, 128, short);
-    claims::packed(
-        v,
-        base.strength as u64,
-        m,
-        base.resistance as u64,
-        wall.governs as u64,
-        verdict,
-    )
+    let strength = u64::from(base.strength);
+    let resistance = u64::from(base.resistance);
+    let m = design_moment(a, 1000, base.moment, resistance);
+    let short = u64::from(base.length) <= 4 * u64::from(base.thickness);
+    let verdict = claims::verdict_of(1, strength < v, 128, short);
+    claims::packed(v, strength, m, resistance, u64::from(wall.governs), verdict)
 }
 
 // The row of a storey of the wall with these running values and its k.
@@ -121,28 +115,21 @@ pub fn storey_row_at(wall: Wall, storey: Storey, k: u32) -> Row
     ensures { result ≡ storey_row_from (fraction wall.coefficient) wall.shear wall.resistance storey }
 {
     let a = wall.coefficient;
-    let v = design_shear(a, k as u64, storey.shear, wall.shear);
-    let m = design_moment(a, k as u64, storey.moment, wall.resistance as u64);
-    let failed = (storey.strength as u64) < v;
-    let broken = (storey.resistance as u64) < m;
-    let verdict = claims::verdict_of(1, failed, 2, broken);
-    claims::packed(
-        v,
-        storey.strength as u64,
-        m,
-        storey.resistance as u64,
-        k as u64,
-        verdict,
-    )
+    let root = u64::from(k);
+    let strength = u64::from(storey.strength);
+    let resistance = u64::from(storey.resistance);
+    let v = design_shear(a, root, storey.shear, wall.shear);
+    let m = design_moment(a, root, storey.moment, u64::from(wall.resistance));
+    let verdict = claims::verdict_of(1, strength < v, 2, resistance < m);
+    claims::packed(v, strength, m, resistance, root, verdict)
 }
 
-// The row of a storey of the wall with these running values; the table of cubes may be lent.
-pub fn storey_row(wall: Wall, storey: Storey, table: &[u64]) -> Row
-    requires table { LentCubes table.now }
+// The row of a storey of the wall with these running values.
+pub fn storey_row(wall: Wall, storey: Storey, cubes: Cubes) -> Row
     requires wall { WallRange wall }
     requires storey { StoreyRange storey }
     ensures { result ≡ storey_row_from (fraction wall.coefficient) wall.shear wall.resistance storey }
 {
-    let k = cubes::least_root(table, storey.inertia, storey.base_inertia);
+    let k = cubes.least_root(storey.inertia, storey.base_inertia);
     storey_row_at(wall, storey, k)
 }

@@ -12,7 +12,6 @@ use lib.Dec.{leb}
 use borrow.Author.Tests.{le-leb, lt-leb, leb-true}
 use Rattle.layout.specs.Forms.{width}
 use Rattle.layout.specs.Layouts.{forms_of, forms_in, width_of_all, operands_width}
-use Rattle.footing.specs.declared.Footing.{Footing}
 use Rattle.format.specs.declared.Command.{Command}
 use Rattle.format.specs.declared.Command.TheVariants.{Finish as finish, Settings as settings, Joint as joint, Column as column, Beam as beam, Hingeless as hingeless, WallBase as wall_base, Storey as storey, Soil as soil, Footing as footing, Detail as detail}
 use Rattle.format.specs.Commands.{byte_of, related, all_in_range as all_in, in_range}
@@ -103,15 +102,6 @@ module _ (c : FileCommand) where
     pub slice_written : (before : List ℕ) → length (file_bytes_of c) ≤ length before → file_bytes_after c before ≡ file_bytes_of c ++ drop (length (file_bytes_of c)) before
     unfolding file_bytes_after
     slice_written before h = rw (r, le-leb (length (file_bytes_of c)) (length before) h)
-
--- a footing in range, on a slice that is shorter than its 58 bytes
-pub footing_answer : (f : Footing) (room : ℕ) → in_range (footing f) ≡ true → room < 58 → write_file_of (one (footing f)) room ≡ refused_with 11
-unfolding bytes_of operand_bytes big_endian width forms_of forms_in
-footing_answer f room r h = answer_11 (one (footing f)) r room h
-
-pub footing_slice : (f : Footing) (before : List ℕ) → in_range (footing f) ≡ true → length before < 58 → file_bytes_after (one (footing f)) before ≡ before
-unfolding bytes_of operand_bytes big_endian width forms_of forms_in
-footing_slice f before r h = slice_11 (one (footing f)) r before h
 
 -- ---- every write, accepted or refused
 

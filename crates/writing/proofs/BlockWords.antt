@@ -25,7 +25,7 @@ storey_kept words more at h =
     let same : (i : ℕ) → i < 6 → get_or (words ++ more) (at + i) 0 ≡ get_or words (at + i) 0 = λ i l. word_kept words more at i h l in
     rw (same 0 (omega arith), same 1 (omega arith), same 2 (omega arith), same 3 (omega arith), same 4 (omega arith), same 5 (omega arith))
 
-storeys_kept : (n : ℕ) (words more : List ℕ) (at : ℕ) → at + 6 * n ≤ length words → storeys_of_words n (words ++ more) at ≡ storeys_of_words n words at
+pub storeys_kept : (n : ℕ) (words more : List ℕ) (at : ℕ) → at + 6 * n ≤ length words → storeys_of_words n (words ++ more) at ≡ storeys_of_words n words at
 unfolding storeys_of_words
 storeys_kept zero words more at h = refl
 storeys_kept (suc n) words more at h = rw (storey_kept words more at (omega arith), storeys_kept n words more (at + 6) (omega arith))

@@ -1,12 +1,17 @@
 -- The loops over the sets of a block that are given as words, over plain values: those before are in range, or their bytes are put.
 -- Assumes nothing.
-use mathlib.Core.Bool.{true, false}
-use mathlib.Core.List.{List, [], ◌∷◌, ◌++◌}
+use mathlib.Core.Bool.{Bool, true, false}
+use mathlib.Core.List.{List, [], ◌∷◌, ◌++◌, map, map-append}
 use mathlib.Core.Path.{◌≡◌, refl, sym, ap, ◌∙◌, subst}
-use Prim.Native.Nat.{ℕ, zero, suc, ◌+◌, ◌-◌, ◌*◌, ◌≤◌, ◌<◌}
+use Prim.Native.Nat.{ℕ, zero, suc, ◌+◌, ◌*◌, ◌/◌, ◌≤◌, ◌<◌}
 use native.Mathlib.Numerals.{add-one}
 use native.Mathlib.Omega.{arith}
-use lib.ListN.{length}
+use lib.Dec.{lit<}
+use lib.ListN.{length, get_or, take, drop, length-map, take-append-drop}
+use lib.Seq.{drop-drop, drop-cons, get_or-take, get_or-drop, length-take-le, take_all}
+use Rattle.std.proofs.lemmas.List.{drop_all, take_more}
+use Rattle.std.specs.Simd.{first_chunks}
+use Rattle.walls.specs.declared.Storey.{Storey}
 use Rattle.slices.specs.Written.{Put}
 use Rattle.slices.proofs.Writing.{written_none, behind, put_length}
 use Rattle.format.specs.declared.Command.TheVariants.{Storey as storey}
@@ -15,6 +20,7 @@ use Rattle.blocks.specs.Sets.{all_in_range}
 use Rattle.blocks.proofs.Sets.{first_in_range, first_at_fault}
 use Rattle.writing.specs.Bytes.{set_bytes}
 use Rattle.writing.specs.BlockGiven.{storey_of_words, storeys_of_words}
+use Rattle.writing.proofs.BlockWords.{storeys_kept}
 use Rattle.writing.proofs.SetBytes.{one_set, set_width, sets_width, sets_more}
 
 -- ---- the storeys of words
@@ -24,91 +30,91 @@ unfolding storeys_of_words
 given_length zero words at = refl
 given_length (suc n) words at = ap suc (given_length n words (at + 6))
 
--- one more behind them
-given_more : (n : ℕ) (words : List ℕ) (at : ℕ) → storeys_of_words (suc n) words at ≡ storeys_of_words n words at ++ storey_of_words words (at + 6 * n) ∷ []
+-- ---- the storeys of sets, six words each
+
+abbrev pub storeys : List (List ℕ) → List Storey
+storeys sets = map (λ words. storey_of_words words 0) sets
+
+chunk_storey : (words : List ℕ) (at : ℕ) → storey_of_words (take 6 (drop at words)) 0 ≡ storey_of_words words at
+unfolding storey_of_words
+chunk_storey words at =
+    let same : (i : ℕ) → i < 6 → get_or (take 6 (drop at words)) i 0 ≡ get_or words (at + i) 0 = λ i l. get_or-take 6 (drop at words) i 0 l ∙ get_or-drop at words i 0 in
+    rw (same 0 (lit< tt), same 1 (lit< tt), same 2 (lit< tt), same 3 (lit< tt), same 4 (lit< tt), same 5 (lit< tt))
+
+chunk_storeys : (n : ℕ) (words : List ℕ) (at : ℕ) → storeys (first_chunks 6 n (drop at words)) ≡ storeys_of_words n words at
 unfolding storeys_of_words
-given_more zero words at = ap (λ (k : ℕ). storey_of_words words k ∷ []) (omega arith)
-given_more (suc n) words at =
-    let e : at + 6 * suc n ≡ at + 6 + 6 * n = omega arith in
-    rw (e, ← given_more n words (at + 6))
+chunk_storeys zero words at = refl
+chunk_storeys (suc n) words at = rw (chunk_storey words at, drop-drop 6 at words, chunk_storeys n words (at + 6))
+
+-- the sets of the words that a block of so many takes
+module _ (count : ℕ) (words : List ℕ) (sets : List (List ℕ)) (room : 6 * count ≤ length words) (f : sets ≡ first_chunks 6 (length (take (6 * count) words) / 6) (take (6 * count) words)) where
+  counted : length (take (6 * count) words) / 6 ≡ count
+  counted = omega (arith, length-take-le (6 * count) words room)
+
+  pub sets_given : storeys sets ≡ storeys_of_words count words 0
+  sets_given =
+      ap storeys f
+      ∙ ap (λ (n : ℕ). storeys (first_chunks 6 n (take (6 * count) words))) counted
+      ∙ chunk_storeys count (take (6 * count) words) 0
+      ∙ sym (storeys_kept count (take (6 * count) words) (drop (6 * count) words) 0 (omega (arith, length-take-le (6 * count) words room)))
+      ∙ ap (λ (l : List ℕ). storeys_of_words count l 0) (take-append-drop (6 * count) words)
+
+  pub sets_count : length sets ≡ count
+  sets_count = sym (length-map sets (λ words. storey_of_words words 0)) ∙ ap (λ (ss : List Storey). length ss) sets_given ∙ given_length count words 0
 
 -- ---- tested one after the other
 
-pub record Testing (words : List ℕ) (count set at : ℕ) : Type 0 where
-  pub within : set ≤ count
-  pub at_is : at ≡ 6 * set
-  pub range : all_in_range (storeys_of_words count words 0) ≡ all_in_range (storeys_of_words (count - set) words at)
+-- the test of a set is that of its words
+pub tested : {s : Storey} {t b : Bool} (words : List ℕ) → s ≡ storey_of_words words 0 → t ≡ in_range (storey s) → t ≡ b → in_range (storey (storey_of_words words 0)) ≡ b
+tested words g e is = sym (e ∙ ap (λ (s : Storey). in_range (storey s)) g) ∙ is
 
-pub test_begins : (words : List ℕ) (count : ℕ) → Testing words count 0 0
-test_begins words count =
-    let e : count ≡ count - 0 = omega arith in
-    record { within = omega arith; at_is = omega arith; range = ap (λ (n : ℕ). all_in_range (storeys_of_words n words 0)) e }
+pub record Testing (sets : List (List ℕ)) (set : ℕ) : Type 0 where
+  pub range : all_in_range (storeys sets) ≡ all_in_range (storeys (drop set sets))
 
-module _ (words : List ℕ) (count set at : ℕ) (s : Testing words count set at) where
-  module _ (l : set < count) where
+pub test_begins : (sets : List (List ℕ)) → Testing sets 0
+test_begins sets = record { range = refl }
+
+module _ (sets : List (List ℕ)) (set : ℕ) (s : Testing sets set) where
+  module _ (l : set < length sets) where
     -- the next set, and those behind it
-    split : storeys_of_words (count - set) words at ≡ storey_of_words words at ∷ storeys_of_words (count - (set + 1)) words (at + 6)
-    unfolding storeys_of_words
-    split =
-        let e : count - set ≡ suc (count - (set + 1)) = omega arith in
-        ap (λ (n : ℕ). storeys_of_words n words at) e
+    split : storeys (drop set sets) ≡ storey_of_words (get_or sets set []) 0 ∷ storeys (drop (set + 1) sets)
+    split = rw (add-one set) (ap storeys (drop-cons sets set [] l))
 
-    pub tests_on : in_range (storey (storey_of_words words at)) ≡ true → Testing words count (set + 1) (at + 6)
+    pub tests_on : in_range (storey (storey_of_words (get_or sets set []) 0)) ≡ true → Testing sets (set + 1)
     tests_on r =
-        record {
-          within = omega arith;
-          at_is = omega (arith, s.at_is);
-          range = s.range ∙ ap all_in_range split ∙ (first_in_range (storey_of_words words at) (storeys_of_words (count - (set + 1)) words (at + 6)) r).0;
-        }
+        record { range = s.range ∙ ap all_in_range split ∙ (first_in_range (storey_of_words (get_or sets set []) 0) (storeys (drop (set + 1) sets)) r).0 }
 
-    pub test_fails : in_range (storey (storey_of_words words at)) ≡ false → all_in_range (storeys_of_words count words 0) ≡ false
-    test_fails r = s.range ∙ ap all_in_range split ∙ (first_at_fault (storey_of_words words at) (storeys_of_words (count - (set + 1)) words (at + 6)) r).0
+    pub test_fails : in_range (storey (storey_of_words (get_or sets set []) 0)) ≡ false → all_in_range (storeys sets) ≡ false
+    test_fails r = s.range ∙ ap all_in_range split ∙ (first_at_fault (storey_of_words (get_or sets set []) 0) (storeys (drop (set + 1) sets)) r).0
 
-  pub test_ends : count ≤ set → all_in_range (storeys_of_words count words 0) ≡ true
-  unfolding storeys_of_words all_in_range
-  test_ends l =
-      let e : count - set ≡ 0 = omega arith in
-      s.range ∙ ap (λ (n : ℕ). all_in_range (storeys_of_words n words at)) e
+  pub test_ends : length sets ≤ set → all_in_range (storeys sets) ≡ true
+  unfolding all_in_range
+  test_ends l = s.range ∙ ap (λ (rest : List (List ℕ)). all_in_range (storeys rest)) (drop_all set sets l)
 
 -- ---- put one after the other
 
-pub record Putting (before words : List ℕ) (count : ℕ) (bytes : List ℕ) (set from at : ℕ) : Type 0 where
-  pub within : set ≤ count
-  pub from_is : from ≡ 6 * set
-  pub at_is : at ≡ 2 + 24 * set
+pub record Putting (before : List ℕ) (sets : List (List ℕ)) (bytes : List ℕ) (set : ℕ) : Type 0 where
   pub kept : length bytes ≡ length before
-  pub put : Put before 2 (set_bytes (storeys_of_words set words 0)) bytes
+  pub put : Put before 2 (set_bytes (storeys (take set sets))) bytes
 
-pub put_begins : (before words : List ℕ) (count : ℕ) → Putting before words count before 0 0 2
-unfolding storeys_of_words set_bytes
-put_begins before words count =
-    record {
-      within = omega arith;
-      from_is = omega arith;
-      at_is = omega arith;
-      kept = refl;
-      put = record { bytes = sym (written_none before 2) };
-    }
+pub put_begins : (before : List ℕ) (sets : List (List ℕ)) → Putting before sets before 0
+unfolding set_bytes
+put_begins before sets = record { kept = refl; put = record { bytes = sym (written_none before 2) } }
 
-module _ (before words : List ℕ) (count : ℕ) (bytes : List ℕ) (set from at : ℕ) (s : Putting before words count bytes set from at) where
-  puts_more : set_bytes (storeys_of_words set words 0) ++ one_set (storey_of_words words from) ≡ set_bytes (storeys_of_words (set + 1) words 0)
-  puts_more =
-      let e : from ≡ 0 + 6 * set = omega (arith, s.from_is) in
-      rw (e, add-one set, given_more set words 0) (sym (sets_more (storeys_of_words set words 0) (storey_of_words words (0 + 6 * set))))
-
-  pub puts_on : {after : List ℕ} → set < count → 2 + 24 * count ≤ length before → Put bytes at (one_set (storey_of_words words from)) after → Putting before words count after (set + 1) (from + 6) (at + 24)
+module _ (before : List ℕ) (sets : List (List ℕ)) (bytes : List ℕ) (set : ℕ) (s : Putting before sets bytes set) where
+  pub puts_on : {after : List ℕ} → set < length sets → 2 + 24 * length sets ≤ length before → Put bytes (2 + 24 * set) (one_set (storey_of_words (get_or sets set []) 0)) after → Putting before sets after (set + 1)
   puts_on {after} l room p =
-      let here : 2 + length (set_bytes (storeys_of_words set words 0)) ≡ at = omega (arith, s.at_is, sets_width (storeys_of_words set words 0), given_length set words 0) in
-      let fits : at + length (one_set (storey_of_words words from)) ≤ length bytes = omega (arith, s.at_is, s.kept, set_width (storey_of_words words from)) in
+      let here = storey_of_words (get_or sets set []) 0 in
+      let so_far = storeys (take set sets) in
+      let more : storeys (take (set + 1) sets) ≡ so_far ++ here ∷ [] = ap storeys (take_more sets set [] l) ∙ map-append (λ words. storey_of_words words 0) (take set sets) (get_or sets set [] ∷ []) in
+      let n : length so_far ≡ set = length-map (take set sets) (λ words. storey_of_words words 0) ∙ length-take-le set sets (omega arith) in
+      let place : 2 + length (set_bytes so_far) ≡ 2 + 24 * set = omega (arith, sets_width so_far, n) in
+      let fits : 2 + 24 * set + length (one_set here) ≤ length bytes = omega (arith, s.kept, set_width here) in
+      let all : set_bytes so_far ++ one_set here ≡ set_bytes (storeys (take (set + 1) sets)) = sym (ap set_bytes more ∙ sets_more so_far here) in
       record {
-        within = omega arith;
-        from_is = omega (arith, s.from_is);
-        at_is = omega (arith, s.at_is);
         kept = put_length p fits ∙ s.kept;
-        put = subst (λ (t : List ℕ). Put before 2 t after) puts_more (behind s.put p here (omega arith));
+        put = subst (λ (t : List ℕ). Put before 2 t after) all (behind s.put p place (omega arith));
       }
 
-  pub put_ends : count ≤ set → Put before 2 (set_bytes (storeys_of_words count words 0)) bytes
-  put_ends l =
-      let e : set ≡ count = omega (arith, s.within) in
-      rw e at s.put
+  pub put_ends : length sets ≤ set → Put before 2 (set_bytes (storeys sets)) bytes
+  put_ends l = rw (take_all set sets l) at s.put

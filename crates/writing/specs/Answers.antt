@@ -1,14 +1,14 @@
 -- What the call `write` answers, and what the lent slice holds then. 02, No. 2: it "reports the bytes written"; "out-of-range values
 -- get 5; then 11 when the slice can't hold the command"; "A write changes only the bytes reported; a refused one reports 0"; "a refusal
 -- carries offset 0 where none is stated". A command of a file is a command by itself or a block (02, No. 7).
-use Rattle.std.specs.Prelude.{Bool, ◌&&◌, cond, List, ◌++◌, ◌≡◌, ℕ, leb, length, drop}
+use Rattle.std.specs.Prelude.{Bool, ◌&&◌, cond, List, ◌++◌, ◌≡◌, ℕ, leb, length, drop, Result, Ok, Err}
 use Rattle.std.proofs.Math.Option.{Option, none, some}
 use Rattle.format.specs.declared.Command.{Command}
 use Rattle.format.specs.Commands.{in_range}
 use Rattle.blocks.specs.Sets.{count_in_range, all_in_range}
 use Rattle.blocks.specs.FileCommands.{FileCommand, one, block, file_command_at}
-use Rattle.writing.specs.declared.Written.{Written}
-use Rattle.writing.specs.declared.Written.TheVariants.{Bytes, OutOfRange, TooShort}
+use Rattle.writing.specs.declared.WriteError.{WriteError}
+use Rattle.writing.specs.declared.WriteError.TheVariants.{OutOfRange, TooShort}
 use Rattle.writing.specs.Bytes.{file_bytes_of}
 
 -- the refusal's number and offset, 0 where there is none, and the bytes written
@@ -24,10 +24,10 @@ abbrev pub refused_with : ℕ → WriteAnswer
 refused_with number = record { number = number; offset = 0; bytes = 0 }
 
 -- the answer of write in the code, in 02's terms
-abbrev pub answer_of : Written → WriteAnswer
-answer_of (Bytes n) = wrote n
-answer_of OutOfRange = refused_with 5
-answer_of TooShort = refused_with 11
+abbrev pub answer_of : Result ℕ WriteError → WriteAnswer
+answer_of (Ok n) = wrote n
+answer_of (Err OutOfRange) = refused_with 5
+answer_of (Err TooShort) = refused_with 11
 
 -- the range test is that of the walk: of a block its count's, and each set's
 abbrev pub file_in_range : FileCommand → Bool
@@ -66,10 +66,10 @@ bytes_given (some c) before = file_bytes_after c before
 
 -- what a write of a command promises: the answer, every byte of the slice, and, where the command is written, that it is read back
 -- with the same values
-pub record WritesFileCommand (c : FileCommand) (before : List ℕ) (answer : Written) (after : List ℕ) : Type 0 where
+pub record WritesFileCommand (c : FileCommand) (before : List ℕ) (answer : Result ℕ WriteError) (after : List ℕ) : Type 0 where
   pub answers : answer_of answer ≡ write_file_of c (length before)
   pub bytes : after ≡ file_bytes_after c before
   pub back : (answer_of answer).number ≡ 0 → file_command_at after 0 ≡ c
 
-abbrev pub WritesCommand : Command → List ℕ → Written → List ℕ → Type 0
+abbrev pub WritesCommand : Command → List ℕ → Result ℕ WriteError → List ℕ → Type 0
 WritesCommand c before answer after = WritesFileCommand (one c) before answer after

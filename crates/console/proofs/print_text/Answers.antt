@@ -2,7 +2,7 @@
 use Rattle.std.proofs.Common.{subst}
 use Rattle.std.specs.Prelude.{OnOk}
 use Rattle.std.specs.Io.KnownBytes.{Appends}
-use Rattle.console.proofs.Printing.{read_back}
+use Rattle.slices.proofs.Writing.{read_back}
 use Rattle.console.proofs.print_text.Goals as goal
 
 pub returns : goal.returns

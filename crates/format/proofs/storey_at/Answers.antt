@@ -1,17 +1,18 @@
--- `format::storey_at` meets its contract: each operand at its offset. Assumes nothing.
-use Rattle.layout.specs.Forms.{width}
-use Rattle.layout.specs.Layouts.{forms_of, forms_in}
-use Rattle.layout.specs.Operands.{offset_of, operand}
+-- `format::storey_at` meets its contract: the bytes of the operands alone. Assumes nothing.
+use mathlib.Core.Path.{◌≡◌}
+use Prim.Native.Nat.{◌+◌, ◌-◌}
+use native.Mathlib.Omega.{arith}
+use lib.ListN.{drop, length-drop}
+use lib.Seq.{length-take-le}
+use Rattle.layout.proofs.Widths.{widths}
+use Rattle.format.proofs.CommandRead.{storey_read}
 use Rattle.format.proofs.storey_at.Goals as goal
 
+pub read-requires : goal.read-requires
+read-requires c =
+    let a = c.args in
+    let k : a.at + 24 - a.at ≡ 24 = omega arith in
+    rw (k, widths.storey) (length-take-le 24 (drop a.at a.job.now) (rw (length-drop a.at a.job.now) (omega arith)))
+
 pub returns : goal.returns
-unfolding operand offset_of width forms_of forms_in
-returns c =
-    rw (
-      c.four_from.ensures,
-      c.four_from-2.ensures,
-      c.four_from-3.ensures,
-      c.four_from-4.ensures,
-      c.four_from-5.ensures,
-      c.four_from-6.ensures,
-    )
+returns c = let a = c.args in storey_read a.job.now a.at (a.at + 24 - a.at) (omega arith) c.read.ensures

@@ -1,29 +1,32 @@
 -- `job::pass` meets its contract: the walk from the start is the placed commands (Begin.antt). Assumes nothing.
-use mathlib.Core.Path.{refl, sym, ap, ◌∙◌, subst}
-use mathlib.Core.Bool.{false}
-use mathlib.Core.List.{[]}
+use Rattle.std.proofs.Common.{[], false, refl, sym, ap, ◌∙◌, subst}
+use Rattle.std.proofs.lemmas.Result.{err_from_is_err_and}
 use Rattle.layout.proofs.Numbers.{Bytes}
-use Rattle.cubes.proofs.Lent.{none_lent}
 use Rattle.job.specs.declared.Place.{Place}
-use Rattle.job.specs.Walking.{Final, no_joints, walk_from, WalkAsks, walked_answer, walked_fault}
-use Rattle.job.proofs.Begin.{no_sums, begin_asks, size_is, fault_is}
+use Rattle.job.specs.Walking.{Finished, Paused, Final, no_joints, WalkAsks, refused_there, progress_answer}
+use Rattle.job.proofs.Begin.{begin_asks, ended}
 use Rattle.job.proofs.pass.Goals as goal
 
 pub walk-requires : goal.walk-requires
 walk-requires c =
     record {
-      table = none_lent;
-      asks = subst (λ (p : Place). WalkAsks c.args.job.now p (no_joints []) false) (sym c.first_place.ensures) (begin_asks false [] no_sums c.args.job.now);
+      asks = subst (λ (p : Place). WalkAsks c.args.job.now p no_joints) (sym c.first_place.ensures) (begin_asks c.args.job.now);
     }
+
+pub returns-in_err-walked : goal.returns-in_err-walked
+returns-in_err-walked c =
+    let p = err_from_is_err_and c.from_residual.result c.from_residual.ensures.1 in
+    let bytes : Bytes c.args.job.now = λ k. (c.type_inv.job k).fits in
+    let e = ended false c.args.job.now [] bytes refl (refused_there c.in_err-walked.field-0.0) (ap (λ (f : Final). f.answer) (rw c.first_place.ensures at c.in_err-walked.ensures)) in
+    rw (p.1, p.2) (record { size = e.0; fault = e.1 })
+
+pub unreachable-requires : goal.unreachable-requires
+unreachable-requires c =
+    let bytes : Bytes c.args.job.now = λ k. (c.type_inv.job k).fits in
+    ended false c.args.job.now [] bytes refl (Paused c.in-Paused.field-0) (ap (λ (f : Final). f.answer) (rw c.first_place.ensures at c.in_ok-walked.ensures) ∙ ap progress_answer c.in-Paused.is)
 
 pub returns : goal.returns
 returns c =
-    let job = c.args.job.now in
-    let bytes : Bytes job = λ k. (c.shared_slice_known-1.given k).fits in record {
-      size = sym (ap (λ (x : Final). walked_answer x.answer) c.walk.ensures)
-          ∙ ap (λ (p : Place). walked_answer (walk_from false 4097 job p (no_joints []) []).answer) c.first_place.ensures
-          ∙ size_is false [] no_sums job [] bytes refl;
-      fault = sym (ap (λ (x : Final). walked_fault job x.answer) c.walk.ensures)
-          ∙ ap (λ (p : Place). walked_fault job (walk_from false 4097 job p (no_joints []) []).answer) c.first_place.ensures
-          ∙ fault_is false [] no_sums job [] bytes refl;
-    }
+    let bytes : Bytes c.args.job.now = λ k. (c.type_inv.job k).fits in
+    let e = ended false c.args.job.now [] bytes refl (Finished c.in-Finished.rows) (ap (λ (f : Final). f.answer) (rw c.first_place.ensures at c.in_ok-walked.ensures) ∙ ap progress_answer c.in-Finished.is) in
+    record { size = e.0; fault = e.1 }

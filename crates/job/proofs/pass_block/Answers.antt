@@ -1,68 +1,38 @@
--- `job::pass_block` meets its contract: each way out, and the way on, is a law of Ways.antt. Assumes nothing.
-use mathlib.Core.Path.{refl, sym, ◌∙◌}
-use Prim.Native.Nat.{ℕ, ◌≤◌, ◌<◌}
-use native.Mathlib.Omega.{arith}
-use lib.ListN.{length}
-use Rattle.blocks.specs.Sets.{count_at, sets_of}
-use Rattle.blocks.proofs.Sets.{count_range, sets_ranged}
+-- `job::pass_block` meets its contract: the way out, and the way on, are laws of Ways.antt. Assumes nothing.
+use Rattle.std.proofs.Common.{◌≡◌, ℕ, ◌+◌, ◌*◌, length, sym, ap, ◌∙◌, arith}
+use Rattle.std.proofs.lemmas.Result.{err_from_is_err_and}
+use Rattle.blocks.specs.Sets.{count_at}
 use Rattle.context.specs.Running.{room_for}
-use Rattle.job.specs.Walking.{walk_from}
-use Rattle.job.proofs.Steps.{BlockEarly, block_early_none}
+use Rattle.job.proofs.Steps.{BlockPassed, block_passed}
 use Rattle.job.proofs.Stands.{standing}
-use Rattle.job.proofs.Ways.{BlockReached, block_refused_early, set_refused, block_on}
+use Rattle.job.proofs.Ways.{refused_block, block_on}
 use Rattle.job.proofs.pass_block.Goals as goal
 
-pub returns-then-early-ne0 : goal.returns-then-early-ne0
-returns-then-early-ne0 c left joints l asks =
+pub returns-in_err-sets : goal.returns-in_err-sets
+returns-in_err-sets c =
+    let p = err_from_is_err_and c.from_residual.result c.from_residual.ensures.1 in
+    let e = c.in_err-sets.ensures in
+    rw (p.1, p.2, e.offset) (λ left joints l asks.
     let room = room_for (length c.args.rows.now) in
-    block_refused_early room (walk_from room left c.args.job.now c.args.place joints c.args.rows.now) c.args.job.now joints c.args.rows.now joints c.args.rows.now c.args.place left
-    (standing room c.args.job.now joints c.args.rows.now c.args.place left asks) l c.requires.asks.inside c.requires.asks.block
-    c.block_fault-early.result c.block_fault-early.ensures c.if-early-ne0.true
-
-pub bounds-job-offset : goal.bounds-job-offset
-bounds-job-offset c =
-    let early : BlockEarly c.args.job.now c.args.place = block_early_none c.args.job.now c.args.place (sym c.block_fault-early.ensures ∙ c.if-early-ne0.false) in
-    early.counted
-
-pub set_named-named-requires : goal.set_named-named-requires
-set_named-named-requires c =
-    let early : BlockEarly c.args.job.now c.args.place = block_early_none c.args.job.now c.args.place (sym c.block_fault-early.ensures ∙ c.if-early-ne0.false) in
-    let few-sets : count_at c.args.job.now c.args.place.offset ≤ 64 = (count_range (count_at c.args.job.now c.args.place.offset) early.count_in_range_lem).1 in
-    record {
-      room = early.whole;
-      few = few-sets;
-    }
-
-pub returns-then-named-ne0 : goal.returns-then-named-ne0
-returns-then-named-ne0 c left joints l asks =
-    let early : BlockEarly c.args.job.now c.args.place = block_early_none c.args.job.now c.args.place (sym c.block_fault-early.ensures ∙ c.if-early-ne0.false) in
-    let reached : (left : ℕ) → 0 < left → BlockReached c.args.job.now c.args.place left = λ left. λ l. record { some_left = l; inside = c.requires.asks.inside; many = c.requires.asks.block; early = early } in
-    let room = room_for (length c.args.rows.now) in
-    set_refused room (walk_from room left c.args.job.now c.args.place joints c.args.rows.now) c.args.job.now joints c.args.rows.now joints c.args.rows.now c.args.place left
-    (standing room c.args.job.now joints c.args.rows.now c.args.place left asks) (reached left l)
-    c.set_named-named.result c.set_named-named.ensures c.if-named-ne0.true
+    refused_block (standing room c.args.job.now joints c.args.rows.now c.args.place left asks) l c.requires.asks.inside c.requires.asks.block
+    c.in_err-sets.field-0.0.refusal e.number e.operand)
 
 pub emit_sets-written-requires : goal.emit_sets-written-requires
 emit_sets-written-requires c =
-    let early : BlockEarly c.args.job.now c.args.place = block_early_none c.args.job.now c.args.place (sym c.block_fault-early.ensures ∙ c.if-early-ne0.false) in
-    let a = c.requires.asks in record {
-      table = c.requires.table;
-      asks = record {
-        wall = a.state.wall;
-        whole = early.whole;
-        ranged = sets_ranged (sets_of c.args.job.now c.args.place.offset) c.set_named-named.result c.set_named-named.ensures c.if-named-ne0.false;
-      };
-      rows = omega (arith, a.rows, early.few);
-    }
+    let p : BlockPassed c.args.job.now c.args.place = block_passed c.args.job.now c.args.place (sym c.in_ok-sets.ensures.number) in
+    let a = c.requires.asks in
+    rw c.in_ok-sets.ensures.sets (record {
+      wall = rw c.running-wall.ensures a.state.wall;
+      asks = record { whole = p.whole; ranged = p.ranged };
+      rows = omega (arith, a.rows, p.few);
+    })
 
 pub returns : goal.returns
 returns c left joints l asks =
-    let early : BlockEarly c.args.job.now c.args.place = block_early_none c.args.job.now c.args.place (sym c.block_fault-early.ensures ∙ c.if-early-ne0.false) in
-    let reached : (left : ℕ) → 0 < left → BlockReached c.args.job.now c.args.place left = λ left. λ l. record { some_left = l; inside = c.requires.asks.inside; many = c.requires.asks.block; early = early } in
-    let m = c.emit_sets-written in
     let room = room_for (length c.args.rows.now) in
-    let on = block_on room (walk_from room left c.args.job.now c.args.place joints c.args.rows.now) c.args.job.now joints c.args.rows.now joints c.args.rows.now c.args.place left
-    (standing room c.args.job.now joints c.args.rows.now c.args.place left asks) (reached left l)
-    c.set_named-named.result c.set_named-named.ensures c.if-named-ne0.false
-    m.new.rows _ _ m.result m.ensures.memory m.ensures.count refl refl in
+    let m = c.emit_sets-written in
+    let e : c.in_ok-sets.sets ≡ count_at c.args.job.now c.args.place.offset = c.in_ok-sets.ensures.sets in
+    let on = block_on (standing room c.args.job.now joints c.args.rows.now c.args.place left asks) l c.requires.asks.inside c.requires.asks.block
+    c.in_ok-sets.ensures.number m.new.rows _ _ m.result (rw (e, c.running-wall.ensures) at m.ensures.memory) (m.ensures.count ∙ ap (λ (n : ℕ). c.args.place.rows + n) e)
+    (ap (λ (n : ℕ). c.args.place.offset + 2 + 24 * n) e) (ap (λ (n : ℕ). c.args.place.count + n) e) in
     (on.same, on.asks)

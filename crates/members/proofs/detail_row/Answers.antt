@@ -1,12 +1,18 @@
 -- `members::detail_row` meets its contract: both products, and the two bits, in the row of specs/ (Rows.antt). Assumes nothing.
+use mathlib.Core.Path.{◌≡◌, ap, ◌∙◌}
+use mathlib.Core.Bool.{◌&&◌}
+use lib.Dec.{eqb}
+use lib.IntN.{pos}
+use borrow.Author.Rules.{rules}
 use Rattle.exact.proofs.Integers.{returned, read_as}
 use Rattle.members.proofs.Rows.{detail_is}
 use Rattle.members.proofs.detail_row.Goals as goal
+use Rattle.members.proofs.detail_row.Goals.{then-d-eq-WALL_BASE, else-d-eq-WALL_BASE}
 
 pub returns : goal.returns
 returns c =
-    let w2 = c.word in
-    let w3 = c.word-2 in
-    let v = c.detail_bits in
-    rw (read_as w2.ensures w2.type_inv, read_as w3.ensures w3.type_inv, returned {z = v.result} v.type_inv)
-    (detail_is c.args.d c.lap_at_wall_base-lap.result v.result c.lap_at_wall_base-lap.ensures v.ensures)
+    let d = c.args.d in
+    let v = c.word in
+    let lap : c.if-d-eq-WALL_BASE.lap ≡ (eqb d.place 2 && eqb d.lap 1) = elim c.if-d-eq-WALL_BASE.branch [ then-d-eq-WALL_BASE w ↦ search rules | else-d-eq-WALL_BASE w ↦ search rules ] in
+    rw (read_as c.from.ensures c.from.type_inv, read_as c.from-2.ensures c.from-2.type_inv, returned {z = v.result} v.type_inv)
+    (detail_is d c.if-d-eq-WALL_BASE.lap v.result lap (v.ensures ∙ ap pos c.verdict_of.ensures.value))

@@ -1,8 +1,17 @@
 -- `members::end_moment` meets its contract: the coefficient of the joint times ME, up; the product fits. Assumes nothing.
+use mathlib.Core.Path.{◌≡◌, ap, ◌∙◌}
+use Rattle.exact.specs.Fraction.{Fraction, whole, up_f, ◌*F◌}
 use Rattle.coefficient.proofs.Bounds.{coefficient_fits}
+use Rattle.members.specs.Hingeless.{end_moment}
+use Rattle.members.proofs.Steps.{end_at_most}
 use Rattle.members.proofs.end_moment.Goals as goal
 
 pub product_up-requires : goal.product_up-requires
-product_up-requires c =
-    let e = rw c.lesser.ensures at c.coefficient-a.ensures.value in
-    coefficient_fits e c.requires.range c.requires.moment
+product_up-requires c = coefficient_fits (rw c.min.ensures at c.coefficient-a.ensures.value) c.requires.range c.requires.moment
+
+pub returns-clause-bound : goal.returns-clause-bound
+returns-clause-bound c =
+    let e = rw c.min.ensures at c.coefficient-a.ensures.value in
+    let m : c.product_up.result ≡ end_moment c.args.settings c.args.j c.args.moment =
+    c.product_up.ensures ∙ ap (λ (a : Fraction). up_f (a *F whole c.args.moment)) e in
+    rw m (end_at_most _ _ _ _ _ c.requires.range.behaviour c.requires.moment)

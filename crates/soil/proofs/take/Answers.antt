@@ -1,4 +1,5 @@
--- `soil::take` meets its contract: with the sign bit clear, at most the limit is in range. Assumes nothing.
+-- `soil::take` meets its contract: with the sign bit clear, at most the limit is in range. The check does not find it by `using` alone.
+-- Assumes nothing.
 use mathlib.Core.Path.{sym, ap, ◌∙◌, subst}
 use Prim.Native.Nat.{ℕ, ◌<◌}
 use denote.Floats.{passes}

@@ -1,4 +1,5 @@
--- `soil::whole` meets its contract: the digits times the factor, shifted, are the value times the factor, taken down. Assumes nothing.
+-- `soil::whole` meets its contract: the digits times the factor, shifted, are the value times the factor, taken down. The check does not
+-- find it by `using` alone. Assumes nothing.
 use mathlib.Core.Path.{sym, subst}
 use Prim.Native.Nat.{ℕ, ◌*◌, ◌^◌, ◌≤◌, ◌<◌}
 use native.Mathlib.Nat.{lt_of_le_of_lt, mul-le-mul}

@@ -1,21 +1,35 @@
--- `text::put_rows` meets its contract: at each turn the rows before row n are written. The measure is the count of those left.
--- Assumes nothing.
-use mathlib.Core.Path.{refl, ◌∙◌}
-use native.Mathlib.Numerals.{add-one}
-use native.Mathlib.Omega.{arith}
-use Rattle.text.specs.Lines.{rows_text}
-use Rattle.slices.proofs.Writing.{then, nothing}
+-- `text::put_rows` meets its contract: the lines of the rows before the loop's row are written. Assumes nothing.
+use Rattle.std.proofs.Common.{◌≡◌, ◌≤◌, ◌<◌, [], length, get_or, ap, ◌∙◌, arith, add-one}
+use Rattle.text.specs.Lines.{rows_text, row_line, row_words}
+use Rattle.slices.proofs.Writing.{nothing, then}
+use Rattle.slices.proofs.Rows.{length_chunks, chunk_at}
 use Rattle.text.proofs.put_rows.Goals as goal
 
 pub loop-row-init : goal.loop-row-init
 unfolding rows_text
-loop-row-init c = (omega arith, refl, omega arith, nothing c.args.out.now c.args.at)
+loop-row-init c = record { writes = nothing c.args.out.now 0; short = omega arith }
+
+pub put_text-at-requires : goal.put_text-at-requires
+put_text-at-requires c =
+    let short : length c.as_str.result.now ≤ 168 = c.as_str.ensures.fits in
+    let within : c.loop-row.row-index < c.args.count = omega (arith, ap length c.first_rows-first.ensures, length_chunks 8 c.args.count c.args.rows.now) in
+    omega (arith, c.requires.room)
 
 pub loop-row-preserved : goal.loop-row-preserved
 unfolding rows_text
-loop-row-preserved c = (
-  omega (arith, c.loop-row-test.true),
-  c.put_row-next.auto.out ∙ c.loop-row.invariant.1,
-  omega (arith, c.loop-row.invariant.2, c.put_row-next.ensures.short),
-  rw add-one (then (omega (arith, c.requires.1)) c.loop-row.invariant.3 c.put_row-next.ensures.writes),
-)
+loop-row-preserved c =
+    let i = c.loop-row.row-index in
+    let short : length c.as_str.result.now ≤ 168 = c.as_str.ensures.fits in
+    let within : i < c.args.count = omega (arith, ap length c.first_rows-first.ensures, length_chunks 8 c.args.count c.args.rows.now) in
+    let row : get_or c.first_rows-first.result.now i [] ≡ row_words c.args.rows.now i =
+    ap (λ rows. get_or rows i []) c.first_rows-first.ensures ∙ chunk_at c.args.count i c.args.rows.now [] within in
+    let line : c.as_str.result.now ≡ row_line (row_words c.args.rows.now i) = c.as_str.ensures.value ∙ c.row_line.ensures ∙ ap row_line row in
+    record {
+      writes = rw (add-one, ← line) (then (omega arith) c.loop-row.invariant.writes c.put_text-at.ensures);
+      short = omega (arith, c.put_text-at.ensures.position, c.loop-row.invariant.short);
+    }
+
+pub returns : goal.returns
+returns c =
+    let all : c.loop-row.row-index ≡ c.args.count = omega (arith, ap length c.first_rows-first.ensures, length_chunks 8 c.args.count c.args.rows.now) in
+    rw all at c.loop-row.invariant

@@ -1,15 +1,8 @@
--- `text::put_rows` meets its contract: at each turn the rows before row n are written. The measure is the count of those left.
--- Assumes nothing.
-use mathlib.Core.Path.{◌≡◌}
-use Prim.Native.Nat.{◌+◌, ◌*◌, ◌-◌, ◌≤◌}
-use lib.ListN.{length}
+-- `text::put_rows` meets its contract: the lines of the rows before the loop's row are written. Assumes nothing.
+use Rattle.std.proofs.Common.{◌*◌}
 use Rattle.text.specs.Lines.{rows_text}
-use Rattle.slices.specs.Written.{Writes}
+use Rattle.slices.specs.Written.{WritesAtMost}
 use Rattle.text.proofs.put_rows.Given as goal
 
 abbrev pub invariant-loop-row : goal.invariant-loop-row
-invariant-loop-row l =
-    (l.row ≤ l.count) × (length l.out ≡ length l.initial.out) × (l.next ≤ l.at + 168 * l.row) × Writes l.initial.out l.at (rows_text l.rows l.row) l.out l.next
-
-abbrev pub decreases-loop-row : goal.decreases-loop-row
-decreases-loop-row l = l.count - l.row
+invariant-loop-row l = WritesAtMost (168 * l.row-index) l.initial.out 0 (rows_text l.fn.rows l.row-index) l.out l.at

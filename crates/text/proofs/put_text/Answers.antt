@@ -1,22 +1,7 @@
--- `text::put_text` meets its contract: at each turn the first bytes of the text are copied. The measure is what is left of it.
--- Assumes nothing.
-use mathlib.Core.Path.{◌≡◌, ◌∙◌}
-use native.Mathlib.Numerals.{add-one}
-use native.Mathlib.Omega.{arith}
-use lib.ListN.{length}
-use lib.Seq.{paste-suc, take-length}
-use Rattle.slices.specs.Written.{written}
+-- `text::put_text` meets its contract: the part of the slice that the text takes is the text. Assumes nothing.
+use Rattle.std.proofs.Common.{◌+◌, length, refl, ◌∙◌}
+use Rattle.slices.proofs.Writing.{put_between}
 use Rattle.text.proofs.put_text.Goals as goal
 
-pub loop-i-preserved : goal.loop-i-preserved
-loop-i-preserved c = (
-  omega arith,
-  rw (c.loop-i.invariant.1, add-one)
-      (paste-suc c.args.out.now c.args.at c.args.text.now c.loop-i.i 0 (omega arith) c.loop-i-test.true),
-)
-
 pub returns : goal.returns
-unfolding written
-returns c =
-    let e : c.loop-i.i ≡ length c.args.text.now = omega arith in
-    record { position = omega arith; bytes = c.loop-i.invariant.1 ∙ rw (e, take-length) }
+returns c = put_between c.args.out.now c.args.at (c.args.at + length c.args.text.now) c.args.text.now (c.copy_from_slice.ensures.after ∙ c.as_bytes.ensures.value) refl

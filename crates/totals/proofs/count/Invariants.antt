@@ -1,11 +1,10 @@
--- `totals::count` meets its contract: the rows before `row` are counted (Counting.antt). The measure is what is left of n. Assumes
--- nothing.
-use Prim.Native.Nat.{◌-◌}
+-- `totals::count` meets its contract: the rows before `row` are counted (Counting.antt). Assumes nothing.
+use Rattle.std.proofs.Common.{◌≡◌}
 use Rattle.totals.proofs.Counting.{Counting}
 use Rattle.totals.proofs.count.Given as goal
 
 abbrev pub invariant-loop-row : goal.invariant-loop-row
-invariant-loop-row l = Counting l.rows l.n l.row l.failed l.checks
-
-abbrev pub decreases-loop-row : goal.decreases-loop-row
-decreases-loop-row l = l.n - l.row
+invariant-loop-row l = record {
+  rows : l.totals.rows ≡ l.fn.n;
+  counting : Counting l.fn.rows l.fn.n l.row-index l.totals.failed l.totals.checks;
+}

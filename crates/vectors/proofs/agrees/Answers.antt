@@ -1,7 +1,7 @@
 -- The bytes compared are those of the listing. Assumes nothing.
 use Rattle.std.proofs.Common.{sym, ◌∙◌}
 use lib.Pointwise.{bytes_decides}
-use Rattle.vectors.proofs.Reading.{read_back}
+use Rattle.slices.proofs.Writing.{read_back}
 use Rattle.vectors.proofs.agrees.Goals as goal
 
 pub returns : goal.returns

@@ -1,7 +1,7 @@
 -- `walls::wall_of` meets its contract, by what the coefficient and its product ensure. Assumes nothing.
+use borrow.Author.Rules.{rules}
 use Rattle.coefficient.proofs.Bounds.{coefficient_fits}
 use Rattle.walls.proofs.Running.{wall_is}
-use borrow.Author.Rules.{rules}
 use Rattle.walls.proofs.wall_of.Goals as goal
 
 pub product_up-shear-requires : goal.product_up-shear-requires
@@ -10,6 +10,4 @@ product_up-shear-requires c = coefficient_fits c.coefficient-limited.ensures.val
 pub returns : goal.returns
 returns c =
     let a = c.coefficient-limited in
-    let s = c.args in
-    wall_is s.behaviour s.base a.result c.product_up-shear.result a.ensures.value a.ensures.governs c.product_up-shear.ensures c.flagged.result
-    c.flagged.ensures
+    wall_is c.args.behaviour c.args.base a.result c.product_up-shear.result a.ensures.value a.ensures.governs c.product_up-shear.ensures

@@ -1,4 +1,8 @@
 -- `writing::write_block` meets its contract: the count, the words, the sets, the room, or its byte, its count and its sets. Assumes nothing.
+use mathlib.Core.Path.{ap, ◌∙◌}
+use native.Mathlib.Omega.{arith}
+use Rattle.blocks.specs.Sets.{all_in_range}
+use Rattle.writing.proofs.GivenSets.{sets_given, sets_count}
 use Rattle.writing.proofs.BlockPromised.{few, bad_count, bad_set, short, done}
 use Rattle.writing.proofs.write_block.Goals as goal
 
@@ -17,17 +21,25 @@ returns-then-sets-n c =
 pub returns-then-not-sets_in_range : goal.returns-then-not-sets_in_range
 returns-then-not-sets_in_range c =
     let a = c.args in
-    let p = bad_set a.count a.sets.now a.bytes.now c.count_in_range.ensures c.if-not-count_in_range.false c.if-sets-n.false c.sets_in_range.ensures c.if-not-sets_in_range.true in
+    let given = sets_given a.count a.sets.now c.as_chunks.result.0.now c.if-sets-n.false c.as_chunks.ensures.front in
+    let p = bad_set a.count a.sets.now a.bytes.now c.count_in_range.ensures c.if-not-count_in_range.false c.if-sets-n.false (c.sets_in_range.ensures ∙ ap all_in_range given) c.if-not-sets_in_range.true in
     record { answer = p.0; bytes = p.1.0; back = p.1.1 }
 
 pub returns-then-bytes-n : goal.returns-then-bytes-n
 returns-then-bytes-n c =
     let a = c.args in
-    let p = short a.count a.sets.now a.bytes.now c.count_in_range.ensures c.if-not-count_in_range.false c.if-sets-n.false c.sets_in_range.ensures c.if-not-sets_in_range.false c.if-bytes-n.true in
+    let given = sets_given a.count a.sets.now c.as_chunks.result.0.now c.if-sets-n.false c.as_chunks.ensures.front in
+    let p = short a.count a.sets.now a.bytes.now c.count_in_range.ensures c.if-not-count_in_range.false c.if-sets-n.false (c.sets_in_range.ensures ∙ ap all_in_range given) c.if-not-sets_in_range.false c.if-bytes-n.true in
     record { answer = p.0; bytes = p.1.0; back = p.1.1 }
+
+pub put_sets-requires : goal.put_sets-requires
+put_sets-requires c =
+    let a = c.args in
+    omega (arith, c.if-bytes-n.false, sets_count a.count a.sets.now c.as_chunks.result.0.now c.if-sets-n.false c.as_chunks.ensures.front)
 
 pub returns : goal.returns
 returns c =
     let a = c.args in
-    let p = done a.count a.sets.now a.bytes.now c.count_in_range.ensures c.if-not-count_in_range.false c.if-sets-n.false c.sets_in_range.ensures c.if-not-sets_in_range.false c.if-bytes-n.false c.put_one.ensures c.put_one-2.ensures c.put_sets.ensures in
+    let given = sets_given a.count a.sets.now c.as_chunks.result.0.now c.if-sets-n.false c.as_chunks.ensures.front in
+    let p = done a.count a.sets.now a.bytes.now c.count_in_range.ensures c.if-not-count_in_range.false c.if-sets-n.false (c.sets_in_range.ensures ∙ ap all_in_range given) c.if-not-sets_in_range.false c.if-bytes-n.false c.put.ensures c.put-2.ensures (rw given at c.put_sets.ensures) in
     record { answer = p.0; bytes = p.1.0; back = p.1.1 }

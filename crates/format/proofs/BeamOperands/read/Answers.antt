@@ -1,0 +1,21 @@
+-- `format::Beam::read` meets its contract: each operand at its offset. Assumes nothing.
+use Rattle.layout.specs.Forms.{width}
+use Rattle.layout.specs.Layouts.{forms_of, forms_in}
+use Rattle.layout.specs.Operands.{offset_of, operand}
+use Rattle.layout.proofs.Numbers.{returned_as}
+use Rattle.format.specs.Commands.{command_of}
+use Rattle.format.proofs.BeamOperands.read.Goals as goal
+
+pub returns : goal.returns
+unfolding operand offset_of width forms_of forms_in command_of
+returns c =
+    rw (
+      c.unsigned.ensures,
+      c.unsigned-2.ensures,
+      c.unsigned-3.ensures,
+      c.unsigned-4.ensures,
+      c.unsigned-5.ensures,
+      returned_as c.signed.type_inv c.signed.ensures,
+      c.unsigned-6.ensures,
+      c.unsigned-7.ensures,
+    )
