@@ -86,7 +86,7 @@ def main():
                 found["1 a flag in a struct"].append(spot)
             if re.search(NUMBERS, line):
                 found["1 a number for a kind or a refusal (parameter, field)"].append(spot)
-            if re.search(r"Refused\((?:\w+::)?\d|return [1-9]\d*;|^\s+[1-9]$", line):
+            if re.search(r"Refused\((?:\w+::)?\d|return [1-9]\d*;|^\s+[1-9]$|\bnumber: [1-9]|_refused\(out, [1-9]", line):
                 found["1 a refusal's number written out"].append(spot)
             if re.search(r"\bwhile\b|\bloop \{", line):
                 found["3 loops that are no `for`"].append(spot)

@@ -1,7 +1,7 @@
 -- V ± a·E as the functions of `exact` have it: it fits, it is the action, it is proper, and for operands in range it is at most 5·10⁸ in
 -- size. V ± D is the action with E = 1. Assumes nothing.
 use mathlib.Core.Path.{◌≡◌, refl, sym, ap, ◌∙◌}
-use Prim.Native.Nat.{ℕ, suc, ◌+◌, ◌*◌, ◌^◌, ◌≤◌, ◌<◌}
+use Prim.Native.Nat.{ℕ, suc, ◌+◌, ◌*◌, ◌≤◌, ◌<◌}
 use native.Mathlib.Omega.{arith}
 use native.Mathlib.Nat.{mul-zero, mul-one, mul-le-mul}
 use lib.IntN.{ℤ, pos, negsuc, neg_ℤ, ◌*ℤ◌, nat_abs}
@@ -71,26 +71,6 @@ action_fits a v e r =
 pub proper : (sign : Sign) (a : Fraction) (v e : ℤ) → 0 < a.den → ProperS (action sign a v e)
 proper Plus a v e h = omega arith
 proper Minus a v e h = omega arith
-
--- any action that fits, without its sign, fits 64 bits
-pub size_fits : (sign : Sign) (a : Quotient) (v e : ℤ) → ActionFits a v e → up_f (size (action sign (fraction a) v e)) < 2 ^ 64
-size_fits sign a v e r =
-    let x = action sign (fraction a) v e in
-    let h : up_f (size x) ≤ 3000000000000000000 = up_le_of (size x).num x.den 3000000000000000000 (proper sign (fraction a) v e r.positive) (by sign) in
-    omega (arith, h)
-  where
-    sums : (n d v w e f : ℕ) → 0 < d → (v + w) * d ≤ 1000000000000000000 → n * (e + f) ≤ 2000000000000000000 →
-        v * d + n * e + (w * d + n * f) ≤ 3000000000000000000 * d
-    sums n d v w e f p h k = omega arith
-
-    total : above v * a.den + a.num * above e + (below v * a.den + a.num * below e) ≤ 3000000000000000000 * a.den
-    total =
-        let steady : nat_abs v * a.den ≤ 1000000000000000000 = omega (arith, mul-le-mul r.steady r.den) in
-        sums a.num a.den (above v) (below v) (above e) (below e) r.positive (rw (nat_abs_law v) at steady) (rw (nat_abs_law e) at r.part.product)
-
-    by : (sign : Sign) → (size (action sign (fraction a) v e)).num ≤ 3000000000000000000 * (action sign (fraction a) v e).den
-    by Plus = omega (arith, total)
-    by Minus = omega (arith, total)
 
 -- both parts of V ± a·E, for a ≤ 4
 parts : (sign : Sign) (a : Quotient) (v e : ℤ) → ActionRange a v e →

@@ -14,6 +14,7 @@ use coefficient::Quotient;
 // at a joint; 1: it is in the latest wall.
 #[derive(Clone, Copy)]
 pub struct Basement {
+    // As it will be given, before it is tested: the operand of a command, kept at 32 bits as a detail's place is.
     pub place: u32,
     pub nonseismic_shear: i32,
     pub seismic_shear: u32,

@@ -1,6 +1,6 @@
 -- The loop over a block's sets, over plain values: those before are in range, so the operand at fault is among those left. Assumes
 -- nothing.
-use mathlib.Core.Bool.{Bool, true, false, cond}
+use mathlib.Core.Bool.{Bool, true, false}
 use mathlib.Core.List.{List, [], ◌∷◌}
 use mathlib.Core.Path.{◌≡◌, refl, sym, ap, ◌∙◌}
 use Prim.Native.Nat.{ℕ, zero, suc, ◌+◌, ◌-◌, ◌*◌, ◌/◌, ◌≤◌, ◌<◌}
@@ -19,7 +19,7 @@ use Rattle.layout.specs.Layouts.{operands_width}
 use Rattle.layout.specs.Operands.{operand}
 use Rattle.layout.proofs.Widths.{widths}
 use Rattle.blocks.specs.Sets.{storey_at, storeys_at, all_in_range, set_at_fault, operand_named}
-use Rattle.blocks.proofs.Sets.{first_in_range, first_at_fault, storeys_alone, fault_below}
+use Rattle.blocks.proofs.Sets.{first_in_range, first_at_fault, fault_below}
 
 -- a chunk of 24 bytes
 pub chunk : (n : ℕ) (bytes : List ℕ) (i : ℕ) (d : List ℕ) → i < n → get_or (first_chunks 24 n bytes) i d ≡ take 24 (drop (24 * i) bytes)
@@ -109,10 +109,3 @@ module _ (bytes : List ℕ) (chunks : List (List ℕ)) (set : ℕ) (f : chunks �
 
   pub named_fits : (r : ℕ) → r ≡ operand_at_fault (command_of 7 (operand 7 (get_or chunks set []) 0)) → length bytes ≤ 1536 → 1 + 6 * set + r < 4294967296
   named_fits r e h = omega (arith, below, fault_here r e, fault_below (storey_at bytes (24 * set)))
-
--- the sets of a part of the bytes
-pub part_sets : (job : List ℕ) (at count n : ℕ) → n ≡ 24 * count → at + 24 * count ≤ length job → storeys_at (length (take n (drop at job)) / 24) (take n (drop at job)) 0 ≡ storeys_at count job at
-part_sets job at count n e h =
-    let w : length (take n (drop at job)) ≡ n = length-take-le n (drop at job) (rw (length-drop at job) (omega arith)) in
-    let q : length (take n (drop at job)) / 24 ≡ count = omega (arith, w) in
-    ap (λ (k : ℕ). storeys_at k (take n (drop at job)) 0) q ∙ storeys_alone count job at 0 n (omega arith) ∙ ap (λ (k : ℕ). storeys_at count job k) (add-zero at)

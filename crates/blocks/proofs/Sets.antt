@@ -1,11 +1,13 @@
 -- Laws of the sets of a block: how many there are, that each stands in the file with its operands, and the set at fault. Assumes nothing.
 use mathlib.Core.Bool.{Bool, true, false, cond}
 use mathlib.Core.List.{List, ◌∷◌}
-use mathlib.Core.Path.{◌≡◌, refl, sym, ap, ◌∙◌}
-use Prim.Native.Nat.{ℕ, zero, suc, ◌+◌, ◌*◌, ◌≤◌, ◌<◌}
+use mathlib.Core.Path.{◌≡◌, refl, ap, ◌∙◌}
+use Prim.Native.Nat.{ℕ, zero, suc, ◌+◌, ◌*◌, ◌/◌, ◌≤◌, ◌<◌}
+use native.Mathlib.Nat.{add-zero}
 use native.Mathlib.Omega.{arith}
 use lib.Dec.{lit<, leb, ltb}
-use lib.ListN.{length, take, drop}
+use lib.ListN.{length, take, drop, length-drop}
+use lib.Seq.{length-take-le}
 use borrow.Author.Tests.{leb-true, ltb-true}
 use Rattle.std.specs.Prelude.{Some, None}
 use Rattle.quantity.specs.Range.{within}
@@ -54,6 +56,13 @@ storeys_alone zero job from at w h = refl
 storeys_alone (suc n) job from at w h =
     let e : from + (at + 24) ≡ from + at + 24 = omega arith in
     rw (storey_within job from at w (omega arith), storeys_alone n job from (at + 24) w (omega arith), e)
+
+-- the sets of a slice of a job are those that stand in the job
+pub storeys_of_slice : (job : List ℕ) (at count n : ℕ) → n ≡ 24 * count → at + 24 * count ≤ length job → storeys_at (length (take n (drop at job)) / 24) (take n (drop at job)) 0 ≡ storeys_at count job at
+storeys_of_slice job at count n e h =
+    let w : length (take n (drop at job)) ≡ n = length-take-le n (drop at job) (rw (length-drop at job) (omega arith)) in
+    let q : length (take n (drop at job)) / 24 ≡ count = omega (arith, w) in
+    ap (λ (k : ℕ). storeys_at k (take n (drop at job)) 0) q ∙ storeys_alone count job at 0 n (omega arith) ∙ ap (λ (k : ℕ). storeys_at count job k) (add-zero at)
 
 -- the operand at fault of a set is one of its six
 pub fault_below : (s : Storey) → operand_at_fault (storey s) < 6

@@ -1,10 +1,10 @@
 // A block of storeys: the range of its count, and the operand at fault among its sets. 02, No. 7.
 #![tactic(auto)]
 
-ghost use Rattle.std.specs.Prelude.{◌≡◌, ◌+◌, ◌*◌, ◌/◌, ◌≤◌, length};
+ghost use Rattle.std.specs.Prelude.{◌≡◌, ◌*◌, ◌/◌, ◌≤◌, length};
 ghost use Rattle.blocks.specs.Sets.{count_in_range, storeys_at, operand_named};
 
-use format::Operands;
+use format::{CommandBytes, Operands};
 use layout::Kind;
 use walls::Storey;
 
@@ -18,11 +18,12 @@ pub const LEAST_COUNT: usize = 1;
 
 pub const GREATEST_COUNT: usize = 64;
 
-// Whether a block may have so many sets. Two tests: that of `(1..=64).contains` is not proved equal to the range of the specification.
+// Whether a block may have so many sets.
+#[tactic(auto, unfolding(crate::specs::Sets::count_in_range, quantity::specs::Range::within))]
 pub fn count_in_range(count: usize) -> bool
     ensures { result ≡ count_in_range count }
 {
-    (LEAST_COUNT <= count) & (count <= GREATEST_COUNT)
+    (LEAST_COUNT..=GREATEST_COUNT).contains(&count)
 }
 
 // The operand at fault among sets, counted from 1, six a set; none where every set is in range.
@@ -33,17 +34,9 @@ pub fn operand_named(sets: &[u8]) -> Option<u32>
     let (chunks, _) = sets.as_chunks::<SET>();
     for (set, operands) in chunks.iter().enumerate() {
         if !Storey::read(operands).in_range() {
-            return Some(1 + 6 * set as u32 + format::operand_at_fault(Kind::Storey, operands));
+            let storey = CommandBytes::new(Kind::Storey, operands);
+            return Some(1 + 6 * set as u32 + storey.operand_at_fault());
         }
     }
     None
-}
-
-// The same of so many sets, the first at an offset.
-pub fn set_named(job: &[u8], at: usize, count: usize) -> Option<u32>
-    requires room { at + 24 * count ≤ length job.now }
-    requires few { count ≤ 64 }
-    ensures { result ≡ operand_named (storeys_at count job.now at) }
-{
-    operand_named(&job[at..at + SET * count])
 }

@@ -1,6 +1,6 @@
 -- Demand 3 for a whole job; the numbers of a run; what `run` gives twice and on a longer slice; how large its words are, and their page;
 -- joints given again; the words of a storey; where the cap governs; jobs and the calls that write; a block and its storeys singly; its
--- verdicts at their bounds.
+-- verdicts at their bounds; commands that are none of a few.
 mod Ranges
 mod RowsTrue
 pub mod RowsSized
@@ -20,3 +20,4 @@ mod FileListed
 pub mod Singly
 pub mod BlockHolds
 pub mod Edges
+pub mod OtherCommands

@@ -22,7 +22,7 @@ use Rattle.layout.proofs.Numbers.{Bytes}
 use Rattle.format.specs.Commands.{byte_of}
 use Rattle.rows.specs.Rows.{rows_of, words}
 use Rattle.rows.specs.Writing.{joined}
-use Rattle.rows.proofs.Laws.{Eights}
+use Rattle.rows.proofs.Memory.{Eights}
 use Rattle.job.specs.Placed.{Placed, Job, refused, accepted, placed, all_rows}
 use Rattle.capacity.specs.Calls.{RunAnswer, totals_of, ran_answer, refused_run, too_short_run, run_from, run_of, rows_from, rows_after}
 use Rattle.capacity.specs.Numbers.{NumbersOf, RunNumbers}

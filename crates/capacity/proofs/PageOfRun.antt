@@ -17,7 +17,7 @@ use Rattle.layout.proofs.Numbers.{Bytes}
 use Rattle.format.specs.Commands.{byte_of}
 use Rattle.rows.specs.Rows.{rows_of, words}
 use Rattle.rows.specs.Writing.{joined}
-use Rattle.rows.proofs.Laws.{Eights}
+use Rattle.rows.proofs.Memory.{Eights}
 use Rattle.text.specs.Lines.{row_words}
 use Rattle.printing.specs.Page.{widths, page_text, page_length}
 use Rattle.printing.specs.Answers.{any_too_wide, page_too_wide, printed, refused_with, page_of}

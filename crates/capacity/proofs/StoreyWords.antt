@@ -5,10 +5,9 @@ use mathlib.Core.List.{List, ◌∷◌, ◌++◌}
 use Prim.Native.Nat.{ℕ, ◌*◌, ◌≤◌, ◌<◌}
 use lib.IntN.{ℤ}
 use lib.ListN.{length}
-use Rattle.std.specs.Prelude.{Some}
+use Rattle.std.specs.Prelude.{Some, option_map, IfSome}
 use Rattle.exact.specs.Fraction.{Fraction}
 use Rattle.coefficient.proofs.Bounds.{proper}
-use Rattle.walls.specs.declared.Wall.{Wall}
 use Rattle.walls.specs.declared.Storey.{Storey}
 use Rattle.walls.specs.Running.{SameValues}
 use Rattle.walls.proofs.Running.{same_storey_row}
@@ -42,27 +41,27 @@ module _ (job : List ℕ) (earlier : List Placed) (s : Storey) (t : StoreyOf job
       let (es, l, q) = listed_of job t.commands t.is_accepted in
       at_every_storey job t.bytes earlier t.this t.later (ap placed_all (reached_accepted job es l) ∙ q ∙ t.place) s t.is_storey
 
-  module _ (w : Wall) (e : wall_after earlier ≡ Some w) where
-    running_are : at_storey.carries.wall ≡ w
-    running_are = let k = at_storey.carries.running_values in cc
+  row_is : (m : List ℤ) → 8 * length (all_rows t.commands) ≤ length m → row_read (rows_after job m) (length (all_rows earlier)) ≡ running_storey_row at_storey.carries.wall s
+  row_is m l = row_read_lem job t.commands t.is_accepted earlier t.this t.later t.place 7 (running_storey_row at_storey.carries.wall s) at_storey.row m l
 
-    -- words 2 to 7, from the running values and the operands
-    pub storey_words : (m : List ℤ) → 8 * length (all_rows t.commands) ≤ length m → row_read (rows_after job m) (length (all_rows earlier)) ≡ running_storey_row w s
-    storey_words m l =
-        row_read_lem job t.commands t.is_accepted earlier t.this t.later t.place 7 (running_storey_row at_storey.carries.wall s) at_storey.row m l
-        ∙ ap (λ (x : Wall). running_storey_row x s) running_are
+  -- words 2 to 7, from the running values and the operands
+  pub storey_words : (m : List ℤ) → 8 * length (all_rows t.commands) ≤ length m → option_map (λ w. running_storey_row w s) (wall_after earlier) ≡ Some (row_read (rows_after job m) (length (all_rows earlier)))
+  storey_words m l = ap (option_map (λ w. running_storey_row w s)) at_storey.carries.running_values ∙ ap Some (sym (row_is m l))
 
-    positive : 0 < w.coefficient.den
-    positive =
-        let k = at_storey.carries in
-        let b = at_storey.base in
-        subst (λ (x : Wall). 0 < x.coefficient.den) running_are (subst (λ (a : Fraction). 0 < a.den) (sym k.coefficient) (proper 130 b.resistance b.moment k.settings.behaviour))
+  positive : 0 < at_storey.carries.wall.coefficient.den
+  positive =
+      let k = at_storey.carries in
+      let b = at_storey.base in
+      subst (λ (a : Fraction). 0 < a.den) (sym k.coefficient) (proper 130 b.resistance b.moment k.settings.behaviour)
 
 -- two storeys with the same operands, in two jobs or in one: where the walk carries the same values at both, the words are the same,
 -- whatever walls, settings and other commands came before
 pub same_storey_words : (s : Storey) (job other : List ℕ) (earlier before : List Placed) (t : StoreyOf job earlier s) (u : StoreyOf other before s) →
-    (w v : Wall) → wall_after earlier ≡ Some w → wall_after before ≡ Some v → SameValues w v →
+    IfSome (wall_after earlier) (λ w. IfSome (wall_after before) (λ v. SameValues w v)) →
     (m k : List ℤ) → 8 * length (all_rows t.commands) ≤ length m → 8 * length (all_rows u.commands) ≤ length k →
     row_read (rows_after job m) (length (all_rows earlier)) ≡ row_read (rows_after other k) (length (all_rows before))
-same_storey_words s job other earlier before t u w v e f q m k l n =
-    storey_words job earlier s t w e m l ∙ same_storey_row w v (positive job earlier s t w e) (positive other before s u v f) q s ∙ sym (storey_words other before s u v f k n)
+same_storey_words s job other earlier before t u same m k l n =
+    let w = (at_storey job earlier s t).carries in
+    let v = (at_storey other before s u).carries in
+    let q : SameValues w.wall v.wall = rw (w.running_values, v.running_values) at same in
+    row_is job earlier s t m l ∙ same_storey_row w.wall v.wall (positive job earlier s t) (positive other before s u) q s ∙ sym (row_is other before s u k n)

@@ -11,7 +11,8 @@ use Rattle.layout.proofs.Numbers.{Bytes}
 use Rattle.context.specs.Running.{room_for}
 use Rattle.rows.specs.Rows.{rows_of}
 use Rattle.rows.specs.Writing.{joined}
-use Rattle.rows.proofs.Laws.{Eights, words_eight, eights_both, stored_all_fits}
+use Rattle.rows.proofs.Memory.{Eights, stored_all_fits}
+use Rattle.rows.proofs.Laws.{words_eight, eights_both}
 use Rattle.job.specs.Placed.{Placed, Entry, placed_all, Listing, accepted, listed, placed, rows_at, all_rows}
 use Rattle.job.specs.Walking.{Final, first_place, no_joints, walk_from}
 use Rattle.job.proofs.PlacedCases.{listed_of}

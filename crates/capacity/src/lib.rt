@@ -3,12 +3,11 @@
 // The papers leave no value of these calls free: each answer, each lent word and each lent byte is promised by equation.
 #![tactic(auto)]
 
-ghost use Rattle.std.specs.Prelude.{◌≡◌, true, length};
+ghost use Rattle.std.specs.Prelude.{◌≡◌, Err, true, length};
 ghost use Rattle.capacity.specs.Calls.{run_answer, run_of, rows_after, Writes};
 ghost use Rattle.capacity.specs.DemandThree.{DemandThree};
 ghost use Rattle.capacity.specs.declared.RunError.TheVariants.{Refused as refused};
 
-use cubes::Cubes;
 use job::Refused;
 use totals::Totals;
 
@@ -29,6 +28,18 @@ pub enum RunError {
     TooShort(usize),
 }
 
+impl RunError {
+    // Its number in 01.
+    pub fn number(self) -> u32
+        ensures { result ≡ (run_answer (Err self)).number }
+    {
+        match self {
+            RunError::Refused(refused) => refused.refusal.number(),
+            RunError::TooShort(_) => 9,
+        }
+    }
+}
+
 impl From<Refused> for RunError {
     ghost from_gives = { λ r e. e ≡ refused r };
 
@@ -38,25 +49,12 @@ impl From<Refused> for RunError {
 }
 
 // The rows of a job, where it is accepted and there is room for all.
-fn write_with(job: &[u8], cubes: Cubes, rows: &mut [i64])
+fn write_rows(job: &[u8], rows: &mut [i64])
     ensures { Writes job.now rows.old rows.new }
 {
     let mut joints = [None; 256];
     // the first pass met no refusal, nor does this one
-    let _ = job::walk(job, job::first_place(), 4097, &mut joints, cubes, rows);
-}
-
-// The same: the table of cubes is made once for a job with storeys, and not for another. A flag and two calls, as the table has to stand as
-// long as it is lent.
-fn write_rows(job: &[u8], storeys: bool, rows: &mut [i64])
-    ensures { Writes job.now rows.old rows.new }
-{
-    if storeys {
-        let table = cubes::table();
-        write_with(job, Cubes::lent(&table), rows);
-        return;
-    }
-    write_with(job, Cubes::none(), rows);
+    let _ = job::walk(job, job::first_place(), job::WHOLE_JOB, &mut joints, rows);
 }
 
 // The rows of a job, their number, the rows failed and the checks failed.
@@ -65,11 +63,10 @@ pub fn run(job: &[u8], rows: &mut [i64]) -> Result<Totals, RunError>
     ensures words { rows.new ≡ rows_after job.now rows.old }
     ensures demand3 { (run_answer result).accepted ≡ true → DemandThree job.now rows.new }
 {
-    let accepted = job::pass(job)?;
-    let n = accepted.rows;
+    let n = job::pass(job)?;
     if rows.len() / 8 < n {
         return Err(RunError::TooShort(n));
     }
-    write_rows(job, accepted.storeys, rows);
+    write_rows(job, rows);
     Ok(totals::count(&*rows, n))
 }

@@ -103,13 +103,13 @@ impl From<Result<Totals, RunError>> for RanAnswer {
                 checks: totals.checks,
                 ..RanAnswer::default()
             },
-            Err(RunError::Refused(refused)) => RanAnswer {
-                number: refused.refusal.number(),
+            Err(error @ RunError::Refused(refused)) => RanAnswer {
+                number: error.number(),
                 offset: refused.offset,
                 ..RanAnswer::default()
             },
-            Err(RunError::TooShort(needed)) => RanAnswer {
-                number: 9,
+            Err(error @ RunError::TooShort(needed)) => RanAnswer {
+                number: error.number(),
                 needed,
                 ..RanAnswer::default()
             },
@@ -143,6 +143,7 @@ impl From<Option<u32>> for SoilAnswer {
                 value,
                 ..SoilAnswer::default()
             },
+            // take-down refuses with 5 alone
             None => SoilAnswer {
                 number: 5,
                 ..SoilAnswer::default()
@@ -160,17 +161,13 @@ impl From<Result<usize, PageError>> for PrintedAnswer {
                 bytes,
                 ..PrintedAnswer::default()
             },
-            Err(PageError::TooFewWords(rows)) => PrintedAnswer {
-                number: 9,
+            Err(error @ PageError::TooFewWords(rows)) => PrintedAnswer {
+                number: error.number(),
                 rows,
                 ..PrintedAnswer::default()
             },
-            Err(PageError::TooWide) => PrintedAnswer {
-                number: 12,
-                ..PrintedAnswer::default()
-            },
-            Err(PageError::TooShort) => PrintedAnswer {
-                number: 11,
+            Err(error) => PrintedAnswer {
+                number: error.number(),
                 ..PrintedAnswer::default()
             },
         }

@@ -147,10 +147,10 @@ pub struct DetailOperands {
 fn bits_of(value: f32) -> u32
     ensures { result ≡ to_bits binary32 value }
 {
-    if value == value {
-        f32::to_bits(value)
-    } else {
+    if value.is_nan() {
         0x7fc0_0000
+    } else {
+        value.to_bits()
     }
 }
 
@@ -318,19 +318,15 @@ impl From<Result<usize, WriteError>> for WriteAnswer {
                 bytes,
                 ..WriteAnswer::default()
             },
-            Err(WriteError::OutOfRange) => WriteAnswer {
-                number: 5,
-                ..WriteAnswer::default()
-            },
-            Err(WriteError::TooShort) => WriteAnswer {
-                number: 11,
+            Err(error) => WriteAnswer {
+                number: error.number(),
                 ..WriteAnswer::default()
             },
         }
     }
 }
 
-// ---- the calls
+// ---- the calls, one a command: each is a name that is exported
 
 // 01 settings.
 #[unsafe(no_mangle)]

@@ -45,7 +45,7 @@ impl fmt::Display for Failure {
 fn print_text<W: Write>(job: &[u8], paged: bool, writer: &mut W) -> io::Result<()>
     ensures { OnOk result (Appends (W.contents writer.old) (W.contents writer.new) (printed_of (rows_text paged) job.now)) }
 {
-    let mut out = [0u8; 172114];
+    let mut out = [0u8; report::MOST_TEXT];
     let n = report::printed_text(job, paged, &mut out);
     writer.write_all(&out[..n])
 }
@@ -59,7 +59,7 @@ pub fn print_input<R: Read, W: Write>(
     ensures ok { OnOk result (Prints paged (R.remaining reader.old) (W.contents writer.old) (W.contents writer.new)) }
     ensures err { LeavesUnlessRead (W.contents writer.old) (W.contents writer.new) result }
 {
-    let mut buffer = [0u8; 65537];
+    let mut buffer = [0u8; report::MOST_BYTES + 1];
     let n = input::read_all(reader, &mut buffer).map_err(Failure::Input)?;
     print_text(&buffer[..n], paged, writer).map_err(Failure::Output)
 }

@@ -15,7 +15,7 @@ use Rattle.format.specs.declared.Command.{Command}
 use Rattle.format.specs.declared.Command.TheVariants.{Settings as settings, Joint as joint, WallBase as wall_base, Soil as soil}
 use Rattle.format.specs.Commands.{in_range}
 use Rattle.context.specs.declared.State.{State}
-use Rattle.context.specs.Running.{JointTable, next_joints, start_state, running, wall_kept, next_state, SettingsRange, SoundState, SoundJoints}
+use Rattle.context.specs.Running.{JointTable, joint_at, next_joints, start_state, running, wall_kept, next_state, SettingsRange, SoundState, SoundJoints}
 use Rattle.context.proofs.Ranges.{settings_range, joint_range, wall_base_range}
 
 -- ---- the state
@@ -42,6 +42,10 @@ pub joints_length : (joints : JointTable) (c : Command) → length (next_joints 
 unfolding next_joints
 joints_length joints (joint id j) = simp length-set
 joints_length joints _ = refl
+
+-- a joint that is given is in range
+pub joint_given : (joints : JointTable) (id : ℕ) {j : Joint} → SoundJoints joints → joint_at joints id ≡ Some j → JointRange j
+joint_given joints id s e = rw e at (s id)
 
 -- a joint in range keeps every entry in range
 set_sound : (joints : JointTable) (id : ℕ) (j : Joint) → JointRange j → SoundJoints joints → SoundJoints (set joints id (Some j))

@@ -3,3 +3,4 @@ pub mod Figures
 pub mod Halving
 pub mod Roots
 pub mod Rule
+pub mod Table

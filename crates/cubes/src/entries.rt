@@ -1,5 +1,5 @@
-// The cubes of 0 to 1,000, one after the other.
-pub const CUBES: [u64; 1001] = [
+// The cubes of 0 to 1,000, one after the other. A static stands once in the program; a constant would be stored anew at each use.
+pub static CUBES: [u64; 1001] = [
     0, 1, 8, 27, 64, 125, 216, 343, 512, 729, 1000, 1331, 1728, 2197, 2744, 3375, 4096, 4913, 5832,
     6859, 8000, 9261, 10648, 12167, 13824, 15625, 17576, 19683, 21952, 24389, 27000, 29791, 32768,
     35937, 39304, 42875, 46656, 50653, 54872, 59319, 64000, 68921, 74088, 79507, 85184, 91125,

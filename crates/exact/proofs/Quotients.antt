@@ -1,18 +1,20 @@
--- A sum rounded by `div_euclid` of std: what its total is, that it and its quotients fit an i64, and what they come to.
--- Assumes nothing.
-use mathlib.Core.Path.{◌≡◌, refl, ap, ◌∙◌}
-use Prim.Native.Nat.{ℕ, ◌*◌, ◌^◌, ◌<◌, ◌≤◌}
+-- What both paths of `ceil_div` return, and the total of a sum divided down. Assumes nothing.
+use mathlib.Core.Path.{◌≡◌, refl, ap, subst}
+use mathlib.Core.Bool.{true, false}
+use Prim.Native.Nat.{ℕ, zero, suc, ◌+◌, ◌/◌, ◌^◌, ◌<◌}
 use native.Mathlib.Omega.{arith}
-use native.Mathlib.Nat.{mul-le-mul_left}
-use lib.IntN.{ℤ, pos, negsuc, neg_ℤ, sub_ℕ, ◌-ℤ◌, nat_abs}
+use native.Mathlib.Nat.{div-le_self, zero-div}
+use borrow.Author.Tests.{leb-true}
+use lib.Dec.{T}
+use lib.IntN.{ℤ, pos, negsuc, neg_ℤ, sub_ℕ, ◌+ℤ◌, ◌-ℤ◌, nat_abs}
+use lib.Signed.{◌<ℤ◌, le_z, quot_z}
 use mir.Syntax.{w64}
-use mir.Val.{SFits}
+use mir.Val.{SFits, to_z, of_z}
+use mir.Facts.{to_z-of_z}
 use Rattle.std.specs.Int.{int_div_euclid}
 use Rattle.exact.specs.Quotient.{down_ℤ, up_ℤ}
-use Rattle.exact.specs.SignedFraction.{SignedFraction, whole_s, ratio_s, ◌+S◌, down_s, up_s}
-use Rattle.exact.specs.Sums.{SumFits}
-use Rattle.exact.proofs.Integers.{nat_abs_law, nat_abs_neg, nat_abs_sub_ℕ, negated, fits_size}
-use Rattle.exact.proofs.Rounding.{down_ℤ_size}
+use Rattle.exact.specs.SignedFraction.{SignedFraction, whole_s, ratio_s, ◌+S◌, down_s}
+use Rattle.exact.proofs.Integers.{ints, ≡_in, fits_in, -ℤ_law, above_neg, below_neg}
 
 -- ---- what `div_euclid` ensures
 
@@ -21,33 +23,39 @@ unfolding down_ℤ
 floor_signed (pos a) d = refl
 floor_signed (negsuc a) d = refl
 
--- minus the down of minus n
-ceil_signed : (n : ℤ) (d : ℕ) → neg_ℤ (int_div_euclid (neg_ℤ n) (pos d)) ≡ up_ℤ n d
-unfolding up_ℤ
-ceil_signed n d = ap neg_ℤ (floor_signed (neg_ℤ n) d)
+-- ---- the paths of `ceil_div`
 
--- ---- of a sum s with the total t
+-- an n up to 0: the quotient itself
+pub ceil_low : {n d : ℤ} → SFits w64 n → pos 0 <ℤ d → le_z n (pos 0) ≡ true → to_z w64 (of_z w64 (quot_z n d)) ≡ up_ℤ n (nat_abs d)
+unfolding up_ℤ down_ℤ
+ceil_low {n} {d = negsuc b} f h k = absurd h.lt
+ceil_low {n = pos a} {d = pos b} f h k =
+    let z : a ≡ 0 = omega (arith, leb-true a 0 k) in rw (z, zero-div b) refl
+ceil_low {n = negsuc a} {d = pos b} f h k =
+    let q = pos (suc a / b) in
+    to_z-of_z (fits_in (neg_ℤ q) (omega (arith, above_neg q)) (omega (ints, below_neg q, div-le_self (suc a) b, f)))
 
-module _ (w n : ℤ) (d : ℕ) (s : SignedFraction) (t q : ℤ) (f : SumFits w n d) (v : whole_s w +S ratio_s n d ≡ s) (e : t ≡ sub_ℕ s.plus s.minus) where
-  same_den : s.den ≡ d
-  same_den = omega (arith, ap (λ (x : SignedFraction). x.den) v)
+-- an n above 0: 1 + (n − 1) / d
+pub ceil_high :
+    {n d : ℤ} → SFits w64 n → pos 0 <ℤ d → le_z n (pos 0) ≡ false
+    → to_z w64 (of_z w64 (pos 1 +ℤ to_z w64 (of_z w64 (quot_z (to_z w64 (of_z w64 (n -ℤ pos 1))) d)))) ≡ up_ℤ n (nat_abs d)
+unfolding up_ℤ down_ℤ
+ceil_high {n} {d = negsuc b} f h k = absurd h.lt
+ceil_high {n = negsuc a} {d = pos b} f h k = absurd (subst T k tt)
+ceil_high {n = pos zero} {d = pos b} f h k = absurd (subst T k tt)
+ceil_high {n = pos (suc a)} {d = pos b} f h k =
+    let l = div-le_self a b in
+    let s : suc a < 2 ^ 63 = f.sfits in
+    let less : pos (suc a) -ℤ pos 1 ≡ pos a = ≡_in (pos (suc a) -ℤ pos 1) (pos a) (omega (arith, -ℤ_law (pos (suc a)) (pos 1))) in
+    rw (less, to_z-of_z (fits_in (pos a) (omega arith) (omega arith)), to_z-of_z (fits_in (pos (a / b)) (omega arith) (omega arith)), to_z-of_z (fits_in (pos (1 + a / b)) (omega arith) (omega arith)))
+    (ap pos (omega arith))
 
-  total_size : nat_abs t < 2 ^ 63
-  total_size =
-      omega (arith, ap nat_abs e, nat_abs_sub_ℕ s.plus s.minus, ap (λ (x : SignedFraction). x.plus) v, ap (λ (x : SignedFraction). x.minus) v, ap (λ (k : ℕ). k * d) (nat_abs_law w), nat_abs_law n, f.fits)
+-- ---- `Sum::down`
 
-  pub negative_fits : SFits w64 (pos 0 -ℤ t)
-  negative_fits = rw (negated t) (fits_size (neg_ℤ t) (rw (nat_abs_neg t) total_size))
-
-  pub quotient_fits : q ≡ int_div_euclid (pos 0 -ℤ t) (pos d) → SFits w64 (pos 0 -ℤ q)
-  quotient_fits h =
-      let many : nat_abs (neg_ℤ t) ≤ nat_abs t * d = omega (arith, nat_abs_neg t, mul-le-mul_left (nat_abs t) f.positive) in
-      let is : q ≡ down_ℤ (neg_ℤ t) d = h ∙ ap (λ (z : ℤ). int_div_euclid z (pos d)) (negated t) ∙ floor_signed (neg_ℤ t) d in
-      rw (negated q)
-      (fits_size (neg_ℤ q) (omega (arith, nat_abs_neg q, ap nat_abs is, down_ℤ_size (neg_ℤ t) d (nat_abs t) many f.positive, total_size)))
-
-  pub down_read : q ≡ int_div_euclid t (pos d) → q ≡ down_s s
-  down_read h = let g = floor_signed t d in let k = same_den in cc
-
-  pub up_read : q ≡ int_div_euclid (pos 0 -ℤ t) (pos d) → pos 0 -ℤ q ≡ up_s s
-  up_read h = let g = ceil_signed t d in let k = same_den in let a = negated t in let b = negated q in cc
+-- a sum s with the total t, which `div_euclid` divides by its denominator
+pub down_read :
+    (w n : ℤ) (d : ℕ) {s : SignedFraction} {t q : ℤ} → whole_s w +S ratio_s n d ≡ s → t ≡ sub_ℕ s.plus s.minus → q ≡ int_div_euclid t (pos d) → q ≡ down_s s
+down_read w n d {s} {t} v e h =
+    let g = floor_signed t d in
+    let k : s.den ≡ d = omega (arith, ap (λ (x : SignedFraction). x.den) v) in
+    cc

@@ -1,5 +1,5 @@
 -- The two laws of each rounding of specs/Quotient.antt: n ≤ up·d < n + d and down·d ≤ n < down·d + d, over ℕ and over ℤ,
--- that a number between those bounds is the rounded one, that rounding up keeps the order, and how large a rounded number is.
+-- that a natural between the bounds of rounding up is the rounded one, that rounding up keeps the order, and how large a rounded number is.
 -- Assumes nothing.
 use mathlib.Core.Path.{◌≡◌, ap}
 use Prim.Native.Nat.{ℕ, suc, ◌+◌, ◌-◌, ◌*◌, ◌/◌, ◌%◌, ◌≤◌, ◌<◌, min}
@@ -12,7 +12,7 @@ use Rattle.exact.specs.Quotient.{up, down, up_ℤ, down_ℤ}
 use Rattle.exact.specs.Fraction.{Fraction, Proper, up_f, ◌≤F◌, ◌≈F◌}
 use Rattle.exact.specs.SignedFraction.{SignedFraction, ProperS, above, below, up_s, down_s}
 use Rattle.exact.proofs.Multiply.{◌·◌}
-use Rattle.exact.proofs.Integers.{≡_in, ≤ℤ_in, <ℤ_in, above_neg, below_neg, nat_abs_neg, nat_abs_sub_ℕ, *ℤ_law, +ℤ_law}
+use Rattle.exact.proofs.Integers.{≤ℤ_in, <ℤ_in, above_neg, below_neg, nat_abs_neg, nat_abs_sub_ℕ, *ℤ_law, +ℤ_law}
 
 -- ---- naturals
 
@@ -47,12 +47,6 @@ pub up_is : (n d r : ℕ) → 0 < d → n ≤ r * d → r * d < n + d → r ≡ 
 up_is n d r h a b =
     let k : r ≤ up n d = step d r (up n d) (omega (arith, up_le n d h)) in
     let l : up n d ≤ r = step d (up n d) r (omega (arith, up_lt n d h)) in
-    omega arith
-
-pub down_is : (n d r : ℕ) → 0 < d → r * d ≤ n → n < r * d + d → r ≡ down n d
-down_is n d r h a b =
-    let k : r ≤ down n d = step d r (down n d) (omega (arith, down_lt n d h)) in
-    let l : down n d ≤ r = step d (down n d) r (omega (arith, down_le n d)) in
     omega arith
 
 -- what `div_ceil` of std ensures
@@ -94,24 +88,6 @@ unfolding up_ℤ
 up_ℤ_lt n d h =
     let q = down_ℤ (neg_ℤ n) d in
     omega (arith, down_ℤ_lt (neg_ℤ n) d h, above_neg n, below_neg n, ap (λ (k : ℕ). k * d) (above_neg q), ap (λ (k : ℕ). k * d) (below_neg q))
-
--- two integers less than one step apart are equal
-step_ℤ : (d : ℕ) (x y : ℤ) → above x * d + below y * d < above y * d + below x * d + d → above x + below y ≤ above y + below x
-step_ℤ d x y h = step d (above x + below y) (above y + below x) (omega arith)
-
-pub down_ℤ_is : (n r : ℤ) (d : ℕ) → 0 < d → above r * d + below n ≤ above n + below r * d → above n + below r * d < above r * d + d + below n → r ≡ down_ℤ n d
-down_ℤ_is n r d h a b =
-    let q = down_ℤ n d in
-    let k = step_ℤ d r q (omega (arith, down_ℤ_lt n d h)) in
-    let l = step_ℤ d q r (omega (arith, down_ℤ_le n d h)) in
-    ≡_in r q (omega arith)
-
-pub up_ℤ_is : (n r : ℤ) (d : ℕ) → 0 < d → above n + below r * d ≤ above r * d + below n → above r * d + below n < above n + below r * d + d → r ≡ up_ℤ n d
-up_ℤ_is n r d h a b =
-    let q = up_ℤ n d in
-    let k = step_ℤ d r q (omega (arith, up_ℤ_le n d h)) in
-    let l = step_ℤ d q r (omega (arith, up_ℤ_lt n d h)) in
-    ≡_in r q (omega arith)
 
 -- ---- how large they are: a quotient of a size of at most b, rounded, is of a size of at most b
 

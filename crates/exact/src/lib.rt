@@ -1,14 +1,26 @@
-// Sums whole + num/den rounded down (floor) and up (ceiling), right below zero and at the ends of i64, by the library's quotients.
+// Quotients rounded up (ceiling) and sums whole + num/den rounded down (floor) and up, right below zero and at the ends of i64. The floor
+// of each i64 is the library's `div_euclid`.
 // 01, "The form each place needs": "signed quotients with floor and ceiling, right below zero and at the ends".
 #![tactic(auto)]
 
-ghost use Rattle.std.specs.Prelude.{◌≡◌};
+ghost use Rattle.std.specs.Prelude.{◌≡◌, pos, nat_abs, ◌<ℤ◌};
 ghost use Rattle.std.proofs.Math.IntN.{sub_ℕ};
+ghost use Rattle.exact.specs.Quotient.{up_ℤ};
 ghost use Rattle.exact.specs.Fraction.{up_f};
 ghost use Rattle.exact.specs.SignedFraction.{SignedFraction, whole_s, ratio_s, ◌+S◌, up_s, down_s, size};
 ghost use Rattle.exact.specs.Sums.{SumFits};
 
 use std::marker::Model;
+
+// n / d, up, which the library has for unsigned numbers alone. `/` rounds towards zero: that is up where n is not above 0. No step
+// overflows at the ends of i64.
+#[tactic(auto, using(crate::proofs::Quotients::ceil_low, crate::proofs::Quotients::ceil_high))]
+pub fn ceil_div(n: i64, d: i64) -> i64
+    requires { pos 0 <ℤ d }
+    ensures { result ≡ up_ℤ n (nat_abs d) }
+{
+    if n <= 0 { n / d } else { 1 + (n - 1) / d }
+}
 
 // whole + num / den, worked out as (whole·den + num) / den, which fits an i64.
 #[derive(Drop)]
@@ -42,11 +54,11 @@ impl Sum {
         self.whole * (self.den as i64) + self.num
     }
 
-    // The sum, up: minus the down of minus the sum. The library has no signed quotient up.
+    // The sum, up.
     pub fn up(self) -> i64
         ensures { result ≡ up_s self }
     {
-        -(-self.total()).div_euclid(self.den as i64)
+        ceil_div(self.total(), self.den as i64)
     }
 
     // The sum, down.

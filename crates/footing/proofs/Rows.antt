@@ -40,10 +40,10 @@ module _ (s : Settings) (f : Footing) (soil : Soil) (sensitive : Bool) (sign : S
       by false e = absurd (subst T e (subst (λ (row : Row). T (le_z (pos 20000) row.word2)) (light_is e) h.le))
 
   -- the row of computed values
-  pub heavy_path : (n : ℤ) (ex ey h : ℕ) → le_z (pos 20000) n ≡ true → n ≡ down_s (normal s f sign) →
+  pub heavy_path : (n : ℤ) (N ex ey h : ℕ) → le_z (pos 20000) n ≡ true → n ≡ down_s (normal s f sign) → N ≡ nat_abs n →
       ex ≡ eccentricity (up_f (size (moment_b s f sign))) (nat_abs (down_s (normal s f sign))) → ey ≡ eccentricity (up_f (size (moment_l s f sign))) (nat_abs (down_s (normal s f sign))) →
-      h ≡ up_f (size (horizontal s f sign)) → heavy_row s f soil sensitive (nat_abs n) ex ey h ≡ footing_row s f soil sensitive sign
-  heavy_path n ex ey h t en ex-is ey-is h-is = rw (ex-is, ey-is, h-is, en) (sym (heavy_is (rw en at t)))
+      h ≡ up_f (size (horizontal s f sign)) → heavy_row s f soil sensitive N ex ey h ≡ footing_row s f soil sensitive sign
+  heavy_path n N ex ey h t en N-is ex-is ey-is h-is = rw (ex-is, ey-is, h-is, N-is, en) (sym (heavy_is (rw en at t)))
 
   pub light_path : (n : ℤ) (h : ℕ) → le_z (pos 20000) n ≡ false → n ≡ down_s (normal s f sign) → h ≡ up_f (size (horizontal s f sign)) →
       light_row n h ≡ footing_row s f soil sensitive sign

@@ -2,7 +2,7 @@
 -- 4·(B + L)·s/10⁶ + 3 on cohesive. Also the bound that keeps it in 64 bits. Assumes nothing.
 use mathlib.Core.Path.{◌≡◌}
 use mathlib.Core.Logic.{◌⊎◌, inl, inr}
-use Prim.Native.Nat.{ℕ, ◌+◌, ◌-◌, ◌*◌, ◌≤◌, ◌<◌, min}
+use Prim.Native.Nat.{ℕ, ◌+◌, ◌-◌, ◌*◌, ◌/◌, ◌≤◌, ◌<◌, min}
 use native.Mathlib.Omega.{arith}
 use native.Mathlib.Nat.{mul-le-mul, lt_of_mul-lt-mul_right, min-eq_left, min-eq_right, min-le_left, min-le_right}
 use lib.IntN.{pos}
@@ -25,7 +25,15 @@ use Rattle.footing.proofs.Flags.{thrust_le}
 use Rattle.footing.proofs.Directions.{Force}
 use Rattle.footing.proofs.Eccentricity.{Reported}
 
--- ---- the bounds of the base resistance and of R
+-- ---- the bounds of the area, of the base resistance and of R
+
+-- both factors at most 20,000
+pub area_le : (b l : ℕ) → b ≤ 20000 → l ≤ 20000 → b * l ≤ 400000000
+area_le b l h k = omega (arith, mul-le-mul h k)
+
+-- a force and a tangent
+pub granular_le : (n t : ℕ) → n ≤ 500000000 → t ≤ 20000 → n * t / 10000 ≤ 1000000000
+granular_le n t h k = omega (arith, mul-le-mul h k)
 
 pub base_le : (soil : Soil) (area n uplift : ℕ) → n ≤ 500000000 → base_resistance soil area n uplift ≤ 1000000000
 unfolding base_resistance

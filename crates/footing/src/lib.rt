@@ -22,6 +22,7 @@ const LEAST_NORMAL: i64 = 20_000;
 
 // 01's B, L; MR, ME of the element above; normal force, moment along B, moment along L and horizontal force, each non-seismic
 // (v) and seismic (e); U; P; bit 0 of the flags: uncertainties minimised, bit 1: strict tolerances, bit 2: full contact, so that P counts.
+// v and e of each action are two operands, as `write` is handed them.
 #[derive(Clone, Copy)]
 pub struct Footing {
     pub breadth: u32,
@@ -53,11 +54,13 @@ pub struct FootingOnSoil {
     pub ghost is: { fraction coefficient ≡ footing_coefficient settings footing },
 }
 
-// ex and ey, 1000 times the moments over N, up.
+// The resultant on the base: N, and its eccentricities ex and ey.
 #[derive(Clone, Copy)]
-struct Eccentricities {
+struct Resultant {
+    normal: u64,
     along_breadth: u64,
     along_length: u64,
+    ghost normal_fits: { normal ≤ 500000000 },
     ghost breadth_fits: { along_breadth ≤ 500000000000 },
     ghost length_fits: { along_length ≤ 500000000000 },
 }
@@ -93,8 +96,7 @@ impl FootingOnSoil {
         let n = self.action(f.nv, f.ne, sign).down();
         let h = self.action(f.hv, f.he, sign).size_up();
         if LEAST_NORMAL <= n {
-            let normal = n as u64;
-            self.heavy_row(normal, self.eccentricities(sign, normal), h)
+            self.heavy_row(self.resultant(sign, n as u64), h)
         } else {
             light_row(n, h)
         }
@@ -112,70 +114,79 @@ impl FootingOnSoil {
         actions::action(self.coefficient, v, e, sign)
     }
 
-    // 1000 times the size of V ± a·E over N, up.
-    #[tactic(auto, using(exact::proofs::Rounding::ceil_is, exact::proofs::Rounding::up_le_self))]
-    fn eccentricity_up(&self, v: i32, e: i32, sign: Sign, n: u64) -> u64
-        requires steady { nat_abs v ≤ 100000000 }
-        requires seismic { nat_abs e ≤ 100000000 }
+    // The resultant with this N.
+    fn resultant(&self, sign: Sign, n: u64) -> Resultant
         requires positive { 0 < n }
-        ensures value { result ≡ eccentricity (up_f (size (action sign (footing_coefficient self.now.settings self.now.footing) v e))) n }
-        ensures bound { result ≤ 500000000000 }
-    {
-        (1000 * self.action(v, e, sign).size_up()).div_ceil(n)
-    }
-
-    fn eccentricities(&self, sign: Sign, n: u64) -> Eccentricities
-        requires { 0 < n }
+        requires bound { n ≤ 500000000 }
+        ensures normal { result.normal ≡ n }
         ensures along_breadth { result.along_breadth ≡ eccentricity (up_f (size (moment_b self.now.settings self.now.footing sign))) n }
         ensures along_length { result.along_length ≡ eccentricity (up_f (size (moment_l self.now.settings self.now.footing sign))) n }
     {
         let f = self.footing;
-        Eccentricities {
-            along_breadth: self.eccentricity_up(f.xv, f.xe, sign, n),
-            along_length: self.eccentricity_up(f.yv, f.ye, sign, n),
+        Resultant {
+            normal: n,
+            along_breadth: eccentricity_up(self.action(f.xv, f.xe, sign).size_up(), n),
+            along_length: eccentricity_up(self.action(f.yv, f.ye, sign).size_up(), n),
         }
     }
 
     // ---- the sliding resistance
 
     // A: both sides less twice their eccentricities.
-    fn effective_area(&self, e: Eccentricities) -> u64
-        ensures { result ≡ effective_area self.now.footing e.along_breadth e.along_length }
+    #[tactic(auto, using(crate::proofs::Sliding::area_le))]
+    fn effective_area(&self, force: Resultant) -> u64
+        ensures value { result ≡ effective_area self.now.footing force.along_breadth force.along_length }
+        ensures bound { result ≤ 400000000 }
     {
-        let breadth = u64::from(self.footing.breadth).saturating_sub(2 * e.along_breadth);
-        let length = u64::from(self.footing.length).saturating_sub(2 * e.along_length);
+        let breadth = u64::from(self.footing.breadth).saturating_sub(2 * force.along_breadth);
+        let length = u64::from(self.footing.length).saturating_sub(2 * force.along_length);
         breadth * length
+    }
+
+    // The resistance of the base, by the kind of soil.
+    #[tactic(auto, using(crate::proofs::Sliding::granular_le), unfolding(crate::specs::Rows::base_resistance, exact::specs::Quotient::down))]
+    fn base_resistance(&self, force: Resultant) -> u64
+        ensures bound { result ≤ 1000000000 }
+        ensures value { result ≡ base_resistance self.now.soil (effective_area self.now.footing force.along_breadth force.along_length) force.normal self.now.footing.uplift }
+    {
+        match self.soil {
+            Soil::Granular(x) => {
+                let net = force.normal.saturating_sub(u64::from(self.footing.uplift));
+                net * u64::from(soil::tangent(x)) / 10_000
+            }
+            Soil::Cohesive(x) => {
+                let s = u64::from(soil::cohesion(x));
+                (self.effective_area(force) * s / 1_000_000).min(2 * force.normal / 5)
+            }
+        }
     }
 
     // R: the base, and two fifths of the passive thrust that counts.
     #[tactic(auto, unfolding(exact::specs::Quotient::down))]
-    fn sliding_resistance(&self, e: Eccentricities, n: u64) -> u64
-        requires { n ≤ 500000000 }
-        ensures value { result ≡ sliding_resistance self.now.footing self.now.soil e.along_breadth e.along_length n }
+    fn sliding_resistance(&self, force: Resultant) -> u64
+        ensures value { result ≡ sliding_resistance self.now.footing self.now.soil force.along_breadth force.along_length force.normal }
         ensures bound { result ≤ 1200000000 }
     {
-        let area = self.effective_area(e);
-        let thrust = u64::from(counted_thrust(self.footing));
-        base_resistance(self.soil, area, n, self.footing.uplift) + 2 * thrust / 5
+        self.base_resistance(force) + 2 * u64::from(counted_thrust(self.footing)) / 5
     }
 
     // ---- bit 4
 
     // n·ex exceeds B, or n·ey exceeds L.
-    fn outside(&self, n: u64, e: Eccentricities) -> bool
+    fn outside(&self, n: u64, force: Resultant) -> bool
         requires { n ≤ 4 }
-        ensures { result ≡ outside_of n self.now.footing e.along_breadth e.along_length }
+        ensures { result ≡ outside_of n self.now.footing force.along_breadth force.along_length }
     {
-        u64::from(self.footing.breadth) < n * e.along_breadth
-            || u64::from(self.footing.length) < n * e.along_length
+        u64::from(self.footing.breadth) < n * force.along_breadth
+            || u64::from(self.footing.length) < n * force.along_length
     }
 
     // 2ex is below B, and 2ey below L.
-    fn inside_halves(&self, e: Eccentricities) -> bool
-        ensures { result ≡ (ltb (2 * e.along_breadth) self.now.footing.breadth && ltb (2 * e.along_length) self.now.footing.length) }
+    fn inside_halves(&self, force: Resultant) -> bool
+        ensures { result ≡ (ltb (2 * force.along_breadth) self.now.footing.breadth && ltb (2 * force.along_length) self.now.footing.length) }
     {
-        2 * e.along_breadth < u64::from(self.footing.breadth)
-            && 2 * e.along_length < u64::from(self.footing.length)
+        2 * force.along_breadth < u64::from(self.footing.breadth)
+            && 2 * force.along_length < u64::from(self.footing.length)
     }
 
     // Flags (bits 0 and 1 both set), q and a meet the exception.
@@ -188,50 +199,50 @@ impl FootingOnSoil {
     }
 
     // The resultant lies too far out.
-    fn eccentric(&self, e: Eccentricities) -> bool
-        ensures { result ≡ eccentric_of self.now.settings.behaviour self.now.footing (footing_coefficient self.now.settings self.now.footing) self.now.sensitive e.along_breadth e.along_length }
+    fn eccentric(&self, force: Resultant) -> bool
+        ensures { result ≡ eccentric_of self.now.settings.behaviour self.now.footing (footing_coefficient self.now.settings self.now.footing) self.now.sensitive force.along_breadth force.along_length }
     {
         if self.sensitive {
-            return self.outside(4, e);
+            return self.outside(4, force);
         }
-        self.outside(3, e) && !(self.excepted() && self.inside_halves(e))
+        self.outside(3, force) && !(self.excepted() && self.inside_halves(force))
     }
 
     // ---- the row
 
     // The row with N at least 20,000.
-    fn heavy_row(&self, n: u64, e: Eccentricities, h: u64) -> Row
-        requires normal { n ≤ 500000000 }
-        requires horizontal { h ≤ 500000000 }
-        ensures { result ≡ heavy_row self.now.settings self.now.footing self.now.soil self.now.sensitive n e.along_breadth e.along_length h }
+    fn heavy_row(&self, force: Resultant, h: u64) -> Row
+        requires { h ≤ 500000000 }
+        ensures { result ≡ heavy_row self.now.settings self.now.footing self.now.soil self.now.sensitive force.normal force.along_breadth force.along_length h }
     {
-        let r = self.sliding_resistance(e, n);
-        let verdict = claims::verdict_of(4, self.eccentric(e), 8, h > r);
-        claims::packed(n, e.along_breadth, e.along_length, h, r, verdict)
+        let r = self.sliding_resistance(force);
+        let verdict = claims::verdict_of(4, self.eccentric(force), 8, h > r);
+        claims::packed(
+            force.normal,
+            force.along_breadth,
+            force.along_length,
+            h,
+            r,
+            verdict,
+        )
     }
 }
 
-// The resistance of the base, by the kind of soil.
-#[tactic(auto, unfolding(crate::specs::Rows::base_resistance, exact::specs::Quotient::down))]
-fn base_resistance(soil: Soil, area: u64, n: u64, uplift: u32) -> u64
-    requires area { area ≤ 400000000 }
-    requires normal { n ≤ 500000000 }
-    ensures { result ≡ base_resistance soil area n uplift }
+// 1000 times a moment over N, up.
+#[tactic(auto, using(exact::proofs::Rounding::ceil_is, exact::proofs::Rounding::up_le_self))]
+fn eccentricity_up(moment: u64, n: u64) -> u64
+    requires moment { moment ≤ 500000000 }
+    requires positive { 0 < n }
+    ensures value { result ≡ eccentricity moment n }
+    ensures bound { result ≤ 500000000000 }
 {
-    match soil {
-        Soil::Granular(x) => {
-            n.saturating_sub(u64::from(uplift)) * u64::from(soil::tangent(x)) / 10_000
-        }
-        Soil::Cohesive(x) => {
-            let s = u64::from(soil::cohesion(x));
-            (area * s / 1_000_000).min(2 * n / 5)
-        }
-    }
+    (1000 * moment).div_ceil(n)
 }
 
 // P where bit 2 of the flags declares the contact, else 0.
 fn counted_thrust(f: Footing) -> u32
-    ensures { result ≡ counted_thrust f }
+    ensures value { result ≡ counted_thrust f }
+    ensures bound { result ≤ f.passive }
 {
     if f.flags / 4 % 2 == 1 { f.passive } else { 0 }
 }

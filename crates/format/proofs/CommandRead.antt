@@ -9,12 +9,11 @@ use native.Mathlib.Omega.{arith}
 use lib.Dec.{lit<}
 use lib.ListN.{length, take, drop}
 use Rattle.layout.specs.Layouts.{known, forms_of, forms_in, operands_width}
-use Rattle.walls.specs.declared.Storey.{Storey}
-use Rattle.format.specs.Commands.{Command, finish, storey, byte_of, operands_of, storey_of, command_of}
+use Rattle.format.specs.Commands.{Command, storey, byte_of, operands_of, storey_of, command_of}
 use Rattle.layout.specs.Operands.{operand, byte_at, read_operands, operands_at}
 use Rattle.format.specs.Reading.{command_at}
 use Rattle.layout.proofs.KnownBytes.{each_byte, known_most}
-use Rattle.format.proofs.CommandBytes.{command_above}
+use Rattle.format.proofs.OtherBytes.{command_above}
 use Rattle.format.proofs.RoundTrip.{byte_back, operands_back}
 use Rattle.layout.proofs.Numbers.{Bytes}
 use Rattle.layout.proofs.Widths.{widths}
@@ -108,12 +107,6 @@ module _ (job : List ℕ) (offset byte : ℕ) (e : byte ≡ byte_at job offset) 
       ∙ ap (λ (n : ℕ). command_of byte (operand byte (take n (drop (offset + 1) job)) 0)) en
       ∙ command_alone job offset byte e
 
-  pub none_read : 10 < byte → finish ≡ command_at job offset
-  none_read h =
-      sym (command_above byte (operand byte job (offset + 1)) h)
-      ∙ ap (λ (b : ℕ). command_of b (operand b job (offset + 1))) e
-      ∙ command_at_offset job offset
-
 -- the storey of a part of the bytes
 pub storey_within : (job : List ℕ) (from at w : ℕ) → at + 24 ≤ w → storey_of (operand 7 (take w (drop from job)) at) ≡ storey_of (operand 7 job (from + at))
 unfolding command_of
@@ -122,10 +115,3 @@ storey_within job from at w h =
     let same : storey (storey_of (operand 7 (take w (drop from job)) at)) ≡ storey (storey_of (operand 7 job (from + at))) =
     command_same 7 (operand 7 (take w (drop from job)) at) (operand 7 job (from + at)) (λ i l. operand_within 7 job from at w i room l) in
     cc
-
-pub storey_read : (job : List ℕ) (from n : ℕ) {s : Storey} → n ≡ 24 → storey s ≡ command_of 7 (operand 7 (take n (drop from job)) 0) → s ≡ storey_of (operand 7 job from)
-unfolding command_of
-storey_read job from n {s} e h =
-    let is : storey s ≡ storey (storey_of (operand 7 (take n (drop from job)) 0)) = h in
-    let only : s ≡ storey_of (operand 7 (take n (drop from job)) 0) = cc in
-    only ∙ storey_within job from 0 n (omega arith) ∙ ap (λ (at : ℕ). storey_of (operand 7 job at)) (add-zero from)

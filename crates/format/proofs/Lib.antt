@@ -1,6 +1,6 @@
 -- Laws of the commands: a command and its operands, the range test operand by operand, what it says of each command's values,
 -- the command at an offset and the types of its values. Assumes nothing.
-pub mod CommandBytes
+pub mod OtherBytes
 pub mod RoundTrip
 pub mod RangeTest
 pub mod CommandRanges

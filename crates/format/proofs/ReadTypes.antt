@@ -12,7 +12,7 @@ use Rattle.layout.proofs.OperandsRead.{Fit, at, operands_fit}
 use Rattle.format.specs.Commands.{command_of}
 use Rattle.format.specs.Reading.{command_at}
 use Rattle.format.specs.Types.{OfTypes}
-use Rattle.format.proofs.CommandBytes.{command_above}
+use Rattle.format.proofs.OtherBytes.{command_above}
 
 types_of : (byte : ℕ) (v : ℕ → ℕ) → Fit byte v → OfTypes (command_of byte v)
 unfolding command_of forms_of forms_in width

@@ -11,7 +11,7 @@ use Rattle.format.specs.Commands.{byte_of, operands_of, command_of}
 use Rattle.layout.proofs.Numbers.{bits_of_signed}
 use Rattle.layout.proofs.OperandsRead.{at, Fit}
 use Rattle.layout.proofs.KnownBytes.{each_byte, forms_above}
-use Rattle.format.proofs.CommandBytes.{command_above}
+use Rattle.format.proofs.OtherBytes.{command_above}
 
 firsts : ℕ → (ℕ → ℕ) → List ℕ
 firsts zero v = []

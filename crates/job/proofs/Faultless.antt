@@ -8,11 +8,10 @@ use Prim.Native.Nat.{ℕ, suc, ◌+◌, ◌≤◌, ◌<◌}
 use native.Mathlib.Omega.{arith}
 use lib.Dec.{eqb, leb, ltb}
 use lib.ListN.{length}
-use borrow.Author.Tests.{ltb-false, leb-true, leb-false, eqb-true, ne_eqb}
+use borrow.Author.Tests.{ltb-false, leb-false, eqb-true, ne_eqb}
 use Rattle.coefficient.specs.declared.Settings.{Settings}
 use Rattle.layout.specs.Layouts.{known}
 use Rattle.layout.specs.Operands.{byte_at}
-use Rattle.layout.proofs.KnownBytes.{known_is}
 use Rattle.walls.specs.declared.Storey.{Storey}
 use Rattle.format.specs.Commands.{byte_of, in_range}
 use Rattle.format.specs.Reading.{command_at}
@@ -42,10 +41,6 @@ or_true false = refl
 -- the byte is none of a block
 pub other_byte : (byte : ℕ) → (byte ≡ 11 → ⊥) → is_block byte ≡ false
 other_byte byte n = ne_eqb byte 11 n
-
--- nor is that of a command by itself
-pub known_single : (byte : ℕ) → known byte ≡ true → is_block byte ≡ false
-known_single byte k = other_byte byte (λ e. omega (arith, leb-true byte 10 (sym (known_is byte) ∙ k), e))
 
 -- ---- a command by itself
 

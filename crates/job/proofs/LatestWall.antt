@@ -3,7 +3,7 @@
 use mathlib.Core.Path.{◌≡◌, refl, sym, ap, ◌∙◌}
 use mathlib.Core.Bool.{Bool, true, false}
 use mathlib.Core.List.{List, [], ◌∷◌, ◌++◌}
-use Rattle.std.specs.Prelude.{Option, None, Some}
+use Rattle.std.specs.Prelude.{Option, None, Some, option_map}
 use Prim.Native.Nat.{ℕ}
 use lib.IntN.{ℤ, pos}
 use lib.ListN.{length, replicate}
@@ -21,6 +21,7 @@ use Rattle.format.specs.declared.Command.TheVariants.{Settings as settings, Wall
 use Rattle.layout.proofs.Numbers.{Bytes}
 use Rattle.context.specs.declared.State.{State}
 use Rattle.context.specs.declared.LatestWall.{LatestWall}
+use Rattle.context.specs.declared.LatestWall.TheVariants.{Given}
 use Rattle.context.specs.Context.{Context, nothing, given, absent}
 use Rattle.context.specs.Running.{room_for, start_state, running, wall_kept, next_state}
 use Rattle.context.proofs.Shown.{Shows, present}
@@ -51,9 +52,13 @@ wall_next room t (settings s) = refl
 wall_next room t (soil s) = refl
 wall_next room t _ = refl
 
+made : (o : Option Settings) (b : WallBase) → running (wall_kept o true b) ≡ option_map (λ s. wall_of s.behaviour b) o
+made None b = refl
+made (Some s) b = refl
+
 -- a base command works them out, from its operands and the settings
-pub values_made : (t : State) (s : Settings) (b : WallBase) → t.settings ≡ Some s → running (next_state true t (wall_base b)).wall ≡ Some (wall_of s.behaviour b)
-values_made t s b e = rw (wall_next true t (wall_base b), e)
+pub values_made : (t : State) (b : WallBase) → running (next_state true t (wall_base b)).wall ≡ option_map (λ s. wall_of s.behaviour b) t.settings
+values_made t b = ap running (wall_next true t (wall_base b)) ∙ made t.settings b
 
 neither : {A : Type 0} (a b : Option A) → or_else a b ≡ None → (a ≡ None) × (b ≡ None)
 neither None b e = (refl, e)
@@ -66,18 +71,30 @@ values_kept room t (p ∷ ps) e =
     let (later, own) = neither (latest_base ps) (base_in p.command) e in
     values_kept room (next_state room t p.command) ps later ∙ wall_next room t p.command ∙ ap (wall_by room t) own
 
--- a walk without room works out none
-pub none_without_room : (t : State) (ps : List Placed) → running t.wall ≡ None → running (state_through false t (located ps)).wall ≡ None
-none_without_room t [] e = e
-none_without_room t (p ∷ ps) e = none_without_room (next_state false t p.command) ps (ap running (wall_next false t p.command) ∙ same (base_in p.command))
-  where
-    kept : (s : Option Settings) (b : WallBase) → running (wall_kept s false b) ≡ None
-    kept None b = refl
-    kept (Some s) b = refl
+-- of the latest base among commands it is kept that one is given, and no values
+abbrev pub given_alone : LatestWall → Option WallBase → LatestWall
+given_alone w None = w
+given_alone w (Some b) = Given
 
-    same : (o : Option WallBase) → running (wall_by false t o) ≡ None
-    same None = e
-    same (Some b) = kept t.settings b
+given_both : (w : LatestWall) (later own : Option WallBase) → given_alone (given_alone w own) later ≡ given_alone w (or_else later own)
+given_both w None own = refl
+given_both w (Some b) own = refl
+
+-- a walk without room works out none
+pub none_without_room : (t : State) (ps : List Placed) → (state_through false t (located ps)).wall ≡ given_alone t.wall (latest_base ps)
+none_without_room t [] = refl
+none_without_room t (p ∷ ps) =
+    none_without_room (next_state false t p.command) ps
+    ∙ ap (λ w. given_alone w (latest_base ps)) (wall_next false t p.command ∙ alone (base_in p.command))
+    ∙ given_both t.wall (latest_base ps) (base_in p.command)
+  where
+    unkept : (s : Option Settings) (b : WallBase) → wall_kept s false b ≡ Given
+    unkept None b = refl
+    unkept (Some s) b = refl
+
+    alone : (o : Option WallBase) → wall_by false t o ≡ given_alone t.wall o
+    alone None = refl
+    alone (Some b) = unkept t.settings b
 
 -- ---- those of the latest base
 

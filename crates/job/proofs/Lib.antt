@@ -18,7 +18,7 @@ pub mod AcceptedLaws
 pub mod Offsets
 pub mod Passing
 pub mod AcceptedBefore
-pub mod KindHere
+pub mod ReadHere
 pub mod Latest
 pub mod LatestWall
 pub mod AlreadyMet

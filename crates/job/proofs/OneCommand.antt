@@ -1,5 +1,5 @@
--- The walk over one command of the file: off the state and the tables it finds the fault and makes the rows that the context gives, and
--- goes on behind the command, with a state and tables that show what holds then. Assumes nothing.
+-- The walk over one command of the file: off the state and the joints it finds the fault and makes the rows that the context gives, and
+-- goes on behind the command, with a state and joints that show what holds then. Assumes nothing.
 use mathlib.Core.Path.{◌≡◌, refl, sym, ap, ◌∙◌, subst}
 use mathlib.Core.Bool.{Bool, true, false, not, cond}
 use mathlib.Core.List.{List}
@@ -19,8 +19,7 @@ use Rattle.context.specs.Context.{Context, given}
 use Rattle.context.specs.Running.{room_for, JointTable}
 use Rattle.context.proofs.Shown.{Shows, settings_given_lem, walled_lem, absent_same}
 use Rattle.rows.specs.Writing.{stored_all}
-use Rattle.rows.proofs.Memory.{stored_all_keeps}
-use Rattle.rows.proofs.Laws.{stored_all_none}
+use Rattle.rows.proofs.Memory.{stored_all_keeps, stored_all_none}
 use Rattle.job.specs.declared.Place.{Place}
 use Rattle.job.specs.Faults.{misplaced, command_tests, block_tests}
 use Rattle.job.specs.Placed.{Entry, entry_at, placed_in, all_rows}

@@ -14,7 +14,7 @@ use Rattle.blocks.specs.FileCommands.{file_command_at}
 use Rattle.context.specs.Context.{Context}
 use Rattle.context.specs.Running.{JointTable}
 use Rattle.rows.specs.Writing.{stored_all}
-use Rattle.rows.proofs.Laws.{stored_all_append}
+use Rattle.rows.proofs.Memory.{stored_all_append}
 use Rattle.job.specs.declared.Place.{Place}
 use Rattle.job.specs.Faults.{tests_at, operand_named}
 use Rattle.job.specs.Placed.{Entry, entry_at, placed_in, placed_all, Listing, refused, accepted, before, listed_by, all_rows}

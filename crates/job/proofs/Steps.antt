@@ -19,14 +19,13 @@ use Rattle.blocks.specs.FileCommands.{FileCommand, one, file_command_at, file_op
 use Rattle.blocks.proofs.Sets.{storeys_length, set_found}
 use Rattle.blocks.proofs.FileCommands.{at_one, at_block}
 use Rattle.context.specs.Context.{given}
-use Rattle.context.specs.Running.{JointTable, walled}
+use Rattle.context.specs.Running.{JointTable, walled, absent_in}
 use Rattle.rows.specs.Writing.{stored_all}
 use Rattle.job.specs.declared.Place.{Place}
 use Rattle.job.specs.declared.Refusal.{Refusal}
 use Rattle.job.specs.declared.Refusal.TheVariants.{CutShort, Unknown, BytesAfterEnd, MisplacedSettings, OutOfRange, Absent, TooMany}
 use Rattle.job.specs.Refusals.{number_of, operand_of}
 use Rattle.job.specs.Faults.{too_many, misplaced, passes_limit, first_of, operand_named}
-use Rattle.job.proofs.Faultless.{known_single}
 use Rattle.job.specs.Walking.{early_tests, early_fault, late_tests, late_fault, command_fault, block_fault, fault_from, WalkAnswer, Refused, Finished, Paused, Final, commands_here, joints_through, rows_here, next_place, outcome, walk_from}
 
 abbrev pub stop : JointTable → List ℤ → WalkAnswer → Final
@@ -110,33 +109,6 @@ early_named bytes at byte count given c n e = not_named n c (λ z. never (not (k
     never false false false true e = omega arith
     never false false false false e = omega arith
 
--- the tests passed
-pub record Early (job : List ℕ) (p : Place) : Type 0 where
-  pub known_byte : known (byte_at job p.offset) ≡ true
-  pub whole : p.offset + 1 + operands_width (byte_at job p.offset) ≤ length job
-  pub few : too_many (byte_at job p.offset) p.count ≡ false
-  pub placed : misplaced (byte_at job p.offset) (given p.state.settings) ≡ false
-
-pub early_none : (job : List ℕ) (p : Place) → early_fault (length job) p.offset (byte_at job p.offset) p.count (given p.state.settings) ≡ 0 → Early job p
-unfolding early_fault
-early_none job p = by (known byte) (ltb (length job) (p.offset + 1 + operands_width byte)) (too_many byte p.count) (misplaced byte (given p.state.settings)) refl refl refl refl
-  where
-    byte : ℕ
-    byte = byte_at job p.offset
-
-    by : (k s m g : Bool) → known (byte_at job p.offset) ≡ k → ltb (length job) (p.offset + 1 + operands_width (byte_at job p.offset)) ≡ s → too_many (byte_at job p.offset) p.count ≡ m → misplaced (byte_at job p.offset) (given p.state.settings) ≡ g →
-        first_of ((not k, 2) ∷ (s, 1) ∷ (m, 8) ∷ (g, 4) ∷ []) ≡ 0 → Early job p
-    by false s m g e1 e2 e3 e4 z = absurd (no_zero 1 z)
-    by true true m g e1 e2 e3 e4 z = absurd (no_zero 0 z)
-    by true false true g e1 e2 e3 e4 z = absurd (no_zero 7 z)
-    by true false false true e1 e2 e3 e4 z = absurd (no_zero 3 z)
-    by true false false false e1 e2 e3 e4 z = record { known_byte = e1; whole = ltb-false (length job) (p.offset + 1 + operands_width (byte_at job p.offset)) e2; few = e3; placed = e4 }
-
--- a refusal of the code that is due by these tests: its number, and the operand that it names
-pub record Due (fault : ℕ) (c : FileCommand) (r : Refusal) : Type 0 where
-  pub number : number_of r ≡ fault
-  pub operand : operand_of r ≡ operand_named (number_of r) c
-
 pub some_number : (r : Refusal) → 0 < number_of r
 some_number CutShort = lit< tt
 some_number Unknown = lit< tt
@@ -165,44 +137,52 @@ module _ (job : List ℕ) (p : Place) (joints : JointTable) where
   early_first (suc n) l e =
       sym (first_front (early_tests (length job) p.offset (byte_at job p.offset) p.count (given p.state.settings)) (late_tests p.state joints (command_at job p.offset)) n (sym e))
 
-  pub early_due : (r : Refusal) → number_of r ≡ early_here → operand_of r ≡ 0 → Due (command_fault job p joints) here r
-  early_due r e o =
-      record {
-        number = early_first (number_of r) (some_number r) e;
-        operand = o ∙ sym (early_named (length job) p.offset (byte_at job p.offset) p.count (given p.state.settings) here (number_of r) (sym e));
-      }
+  -- the number of a refusal that is due by them, and the operand that it names
+  pub early_due : (r : Refusal) → number_of r ≡ early_here → operand_of r ≡ 0 → (number_of r ≡ command_fault job p joints) × (operand_of r ≡ operand_named (number_of r) here)
+  early_due r e o = (
+    early_first (number_of r) (some_number r) e,
+    o ∙ sym (early_named (length job) p.offset (byte_at job p.offset) p.count (given p.state.settings) here (number_of r) (sym e)),
+  )
 
   -- the other tests, behind these
-  module _ (z : early_here ≡ 0) (c : Command) (q : c ≡ command_at job p.offset) where
-    abbrev late_here : ℕ
-    late_here = late_fault p.state joints c
-
-    pub late_is : late_here ≡ command_fault job p joints
+  module _ (z : 0 ≡ early_here) (c : Command) (q : c ≡ command_at job p.offset) where
+    pub late_is : late_fault p.state joints c ≡ command_fault job p joints
     unfolding early_fault late_fault command_fault
     late_is =
         rw q (
-        sym (behind (early_tests (length job) p.offset (byte_at job p.offset) p.count (given p.state.settings)) (late_tests p.state joints (command_at job p.offset)) (no_zero 1, (no_zero 0, (no_zero 7, (no_zero 3, tt)))) z)
+        sym (behind (early_tests (length job) p.offset (byte_at job p.offset) p.count (given p.state.settings)) (late_tests p.state joints (command_at job p.offset)) (no_zero 1, (no_zero 0, (no_zero 7, (no_zero 3, tt)))) (sym z))
         )
 
-    pub late_due : (r : Refusal) → number_of r ≡ late_here → operand_of r ≡ operand_named (number_of r) (one c) → Due (command_fault job p joints) here r
-    late_due r e o =
-        record {
-          number = e ∙ late_is;
-          operand = o ∙ ap (operand_named (number_of r)) (ap one q ∙ sym (at_one job p.offset (known_single (byte_at job p.offset) (early_none job p z).known_byte)));
-        }
-
-    pub late_none : late_here ≡ 0 → in_range c ≡ true
-    unfolding late_fault
-    late_none e = by (in_range c) refl
-      where
-        by : (k : Bool) → in_range c ≡ k → in_range c ≡ true
-        by true r = r
-        by false r = absurd (no_zero 4 (rw r at e))
+    pub late_due : is_block (byte_at job p.offset) ≡ false → (r : Refusal) → number_of r ≡ late_fault p.state joints c → operand_of r ≡ operand_named (number_of r) (one c) →
+        (number_of r ≡ command_fault job p joints) × (operand_of r ≡ operand_named (number_of r) here)
+    late_due b r e o = (e ∙ late_is, o ∙ ap (operand_named (number_of r)) (ap one q ∙ sym (at_one job p.offset b)))
 
   -- of a command by itself these are the tests
   pub one_fault : is_block (byte_at job p.offset) ≡ false → fault_from job p joints ≡ command_fault job p joints
   unfolding fault_from
   one_fault b = rw b
+
+-- all of them have passed
+pub record CommandPassed (job : List ℕ) (p : Place) : Type 0 where
+  pub known_byte : known (byte_at job p.offset) ≡ true
+  pub whole : p.offset + 1 + operands_width (byte_at job p.offset) ≤ length job
+  pub few : too_many (byte_at job p.offset) p.count ≡ false
+  pub ranged : in_range (command_at job p.offset) ≡ true
+
+pub command_passed : (job : List ℕ) (p : Place) (joints : JointTable) → command_fault job p joints ≡ 0 → CommandPassed job p
+unfolding command_fault
+command_passed job p joints =
+    by (known (byte_at job p.offset)) (ltb (length job) (p.offset + 1 + operands_width (byte_at job p.offset))) (too_many (byte_at job p.offset) p.count) (misplaced (byte_at job p.offset) (given p.state.settings)) (in_range (command_at job p.offset)) (absent_in p.state joints (command_at job p.offset))
+    refl refl refl refl
+  where
+    by : (k s m g r a : Bool) → known (byte_at job p.offset) ≡ k → ltb (length job) (p.offset + 1 + operands_width (byte_at job p.offset)) ≡ s → too_many (byte_at job p.offset) p.count ≡ m → in_range (command_at job p.offset) ≡ r →
+        first_of ((not k, 2) ∷ (s, 1) ∷ (m, 8) ∷ (g, 4) ∷ (not r, 5) ∷ (a, 6) ∷ []) ≡ 0 → CommandPassed job p
+    by false s m g r a e1 e2 e3 e4 z = absurd (no_zero 1 z)
+    by true true m g r a e1 e2 e3 e4 z = absurd (no_zero 0 z)
+    by true false true g r a e1 e2 e3 e4 z = absurd (no_zero 7 z)
+    by true false false true r a e1 e2 e3 e4 z = absurd (no_zero 3 z)
+    by true false false false false a e1 e2 e3 e4 z = absurd (no_zero 4 z)
+    by true false false false true a e1 e2 e3 e4 z = record { known_byte = e1; whole = ltb-false (length job) (p.offset + 1 + operands_width (byte_at job p.offset)) e2; few = e3; ranged = e4 }
 
 -- ---- a block
 

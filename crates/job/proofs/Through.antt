@@ -1,4 +1,4 @@
--- Commands one after the other, off the state and the tables: they leave a state and tables that show what holds then, and have the
+-- Commands one after the other, off the state and the joints: they leave a state and joints that show what holds then, and have the
 -- rows that the context gives. Assumes nothing.
 use mathlib.Core.Path.{◌≡◌, refl, sym, ap, ap₂, ◌∙◌, subst}
 use mathlib.Core.Bool.{Bool, true, false, cond}
@@ -21,7 +21,7 @@ use Rattle.format.specs.declared.Command.{Command}
 use Rattle.format.specs.declared.Command.TheVariants.{Finish as finish, Settings as settings, Joint as joint, Column as column, Beam as beam, Hingeless as hingeless, WallBase as wall_base, Storey as storey, Soil as soil, Footing as footing, Detail as detail}
 use Rattle.format.specs.Commands.{byte_of, command_of, in_range}
 use Rattle.format.specs.Reading.{command_at}
-use Rattle.format.proofs.CommandBytes.{command_above}
+use Rattle.format.proofs.OtherBytes.{command_above}
 use Rattle.blocks.specs.Sets.{is_block, sets_of, all_in_range}
 use Rattle.blocks.proofs.Sets.{each_in_range}
 use Rattle.blocks.specs.FileCommands.{file_command_at, storeys_from, commands_from}
@@ -33,7 +33,8 @@ use Rattle.context.proofs.Laws.{next_sound, joints_sound}
 use Rattle.context.proofs.Shown.{Shows, IdsFit, InPlace, settings_given_lem, shows_next}
 use Rattle.rows.specs.Rows.{row_count, rows_of, words}
 use Rattle.rows.specs.Writing.{running_storey_row, rows_from, set_rows, set_rows_running}
-use Rattle.rows.proofs.Laws.{Eights, words_eight, eights_both, count_le}
+use Rattle.rows.proofs.Memory.{Eights}
+use Rattle.rows.proofs.Laws.{words_eight, eights_both, count_le}
 use Rattle.rows.proofs.RowsSame.{rows_same, rows_as_many}
 use Rattle.job.specs.Faults.{misplaced}
 use Rattle.job.specs.Placed.{Placed, context_after, place_each, all_rows}
@@ -104,7 +105,7 @@ module _ (room : Bool) (t : State) (joints : JointTable) (h : Context) (s : Show
   shown_here : IdsFit c → Standing here → Shows room (next_state room t c) (next_joints joints c) (next h c)
   shown_here i w = shows_next room t joints h s c i (placed_here w)
 
--- they leave a state and tables that show what holds then
+-- they leave a state and joints that show what holds then
 pub shows_through : (room : Bool) (t : State) (joints : JointTable) (h : Context) → Shows room t joints h → (cs : List (ℕ × Command)) → AllFit cs → Chained h (place_each h cs) →
     Shows room (state_through room t cs) (joints_through joints cs) (context_after h (place_each h cs))
 shows_through room t joints h s [] f k = s
@@ -141,7 +142,7 @@ eights_through room t joints ((at, c) ∷ cs) =
     eights_both (map (words at (byte_of c)) (rows_from (next_state room t c) (next_joints joints c) c)) (rows_through room (next_state room t c) (next_joints joints c) cs)
     (words_eight at (byte_of c) (rows_from (next_state room t c) (next_joints joints c) c)) (eights_through room (next_state room t c) (next_joints joints c) cs)
 
--- ---- the storeys of a block leave the state and the tables, and have the rows of its sets
+-- ---- the storeys of a block leave the state and the joints, and have the rows of its sets
 
 pub joints_kept : (joints : JointTable) (at : ℕ) (ss : List Storey) → joints_through joints (storeys_from at ss) ≡ joints
 unfolding next_joints
@@ -176,9 +177,9 @@ abbrev pub AllIn : List (ℕ × Command) → Type 0
 AllIn [] = Unit {0}
 AllIn ((at, c) ∷ cs) = (in_range c ≡ true) × AllIn cs
 
-pub storeys_in : (at : ℕ) (ss : List Storey) → all_in_range ss ≡ true → AllIn (storeys_from at ss)
-storeys_in at [] r = tt
-storeys_in at (s ∷ ss) r = let e = each_in_range s ss r in (e.0, storeys_in (at + 24) ss e.1)
+pub all_in_storeys : (at : ℕ) (ss : List Storey) → all_in_range ss ≡ true → AllIn (storeys_from at ss)
+all_in_storeys at [] r = tt
+all_in_storeys at (s ∷ ss) r = let e = each_in_range s ss r in (e.0, all_in_storeys (at + 24) ss e.1)
 
 pub sound_through : (room : Bool) (t : State) (cs : List (ℕ × Command)) → AllIn cs → SoundState t → SoundState (state_through room t cs)
 sound_through room t [] i s = s

@@ -13,7 +13,7 @@ use Rattle.context.specs.Context.{Context, nothing}
 use Rattle.context.specs.Running.{room_for, JointTable, start_state}
 use Rattle.context.proofs.Shown.{Shows}
 use Rattle.rows.specs.Writing.{stored_all}
-use Rattle.rows.proofs.Laws.{stored_all_append}
+use Rattle.rows.proofs.Memory.{stored_all_append}
 use Rattle.job.specs.declared.Place.{Place}
 use Rattle.job.specs.Faults.{after_command}
 use Rattle.job.specs.Placed.{Placed, context_after, place_each, Entry, entry_at, commands_in, placed_in, placed_all, all_rows}

@@ -3,10 +3,11 @@
 use mathlib.Core.Path.{◌≡◌, sym, ap, ◌∙◌}
 use mathlib.Core.Bool.{Bool, true, false}
 use mathlib.Core.List.{List, [], ◌∷◌, map, append-nil}
-use Prim.Native.Nat.{ℕ, zero, suc, ◌+◌, ◌-◌, ◌*◌, ◌≤◌, ◌<◌}
+use Prim.Native.Nat.{ℕ, zero, suc, ◌+◌, ◌-◌, ◌*◌, ◌/◌, ◌≤◌, ◌<◌}
 use native.Mathlib.Omega.{arith}
 use lib.IntN.{ℤ}
 use lib.ListN.{length}
+use Rattle.std.specs.Prelude.{slice_range}
 use borrow.Author.Tests.{eqb-true}
 use Rattle.layout.specs.Layouts.{operands_width}
 use Rattle.layout.specs.Operands.{byte_at}
@@ -17,19 +18,18 @@ use Rattle.blocks.specs.Sets.{is_block, count_at, sets_of}
 use Rattle.blocks.specs.FileCommands.{one, file_command_at, storeys_from, commands_from}
 use Rattle.blocks.proofs.Sets.{storeys_length}
 use Rattle.blocks.proofs.FileCommands.{at_one, at_block, width_one, width_block, storeys_many}
-use Rattle.context.specs.declared.State.{State}
 use Rattle.context.specs.Running.{JointTable, running, next_state, next_joints}
 use Rattle.rows.specs.Rows.{row_count, words}
-use Rattle.context.proofs.Laws.{next_sound, joints_sound}
-use Rattle.rows.specs.Writing.{EmitAsks, rows_from, set_rows_running, stored_all}
+use Rattle.rows.specs.Writing.{rows_from, storeys_in, set_rows_running, stored_all}
 use Rattle.job.specs.declared.Place.{Place}
 use Rattle.job.specs.Faults.{after_command, operand_named}
 use Rattle.job.specs.declared.Refusal.{Refusal}
 use Rattle.job.specs.Refusals.{number_of, operand_of}
 use Rattle.job.specs.Walking.{Refused, Finished, Paused, Final, late_fault, command_fault, block_fault, fault_from, outcome, commands_here, joints_through, row_counts, rows_through, rows_here, next_place}
 use Rattle.job.proofs.Faultless.{count_below}
-use Rattle.job.proofs.Steps.{stop, onward, walk_none, walk_step, no_end, faulty, more_bytes, finished, some_number, Due, Early, early_none, early_here, early_due, late_is, late_due, late_none, one_fault, many_fault, BlockPassed, block_passed}
-use Rattle.job.proofs.Through.{storeys_in, state_kept, joints_kept, storeys_counted, set_rows_through}
+use Rattle.job.proofs.ReadHere.{sets_width, sets_here}
+use Rattle.job.proofs.Steps.{stop, onward, walk_none, walk_step, no_end, faulty, more_bytes, finished, some_number, early_here, early_due, late_is, late_due, CommandPassed, command_passed, one_fault, many_fault, BlockPassed, block_passed}
+use Rattle.job.proofs.Through.{all_in_storeys, state_kept, joints_kept, storeys_counted, set_rows_through}
 use Rattle.job.proofs.Stands.{Stands, moved}
 
 -- ---- the commands at a place
@@ -65,68 +65,61 @@ module _ {room : Bool} {whole : Final} {job : List ℕ} {rows₀ : List ℤ} {jo
   -- ---- a command by itself
 
   module _ (l : 0 < left) (h : p.offset < length job) (b : is_block (byte_at job p.offset) ≡ false) where
-    refused_due : (r : Refusal) → Due (command_fault job p joints) (file_command_at job p.offset) r → whole ≡ stop joints rows (Refused (number_of r) p.offset (operand_of r))
-    refused_due r d = refused_here l h (number_of r) (operand_of r) (some_number r) (one_fault job p joints b ∙ sym d.number) d.operand
+    refused_command : (r : Refusal) → (number_of r ≡ command_fault job p joints) × (operand_of r ≡ operand_named (number_of r) (file_command_at job p.offset)) → whole ≡ stop joints rows (Refused (number_of r) p.offset (operand_of r))
+    refused_command r (n, o) = refused_here l h (number_of r) (operand_of r) (some_number r) (one_fault job p joints b ∙ sym n) o
 
     pub refused_early : (r : Refusal) → number_of r ≡ early_here job p joints → operand_of r ≡ 0 → whole ≡ stop joints rows (Refused (number_of r) p.offset (operand_of r))
-    refused_early r n o = refused_due r (early_due job p joints r n o)
+    refused_early r n o = refused_command r (early_due job p joints r n o)
 
-    -- the first tests have passed
-    module _ (z : 0 ≡ early_here job p joints) (command : Command) (e : command ≡ command_at job p.offset) where
-      early : Early job p
-      early = early_none job p (sym z)
+    pub refused_late : 0 ≡ early_here job p joints → {command : Command} → command ≡ command_at job p.offset → (r : Refusal) → number_of r ≡ late_fault p.state joints command → operand_of r ≡ operand_named (number_of r) (one command) →
+        whole ≡ stop joints rows (Refused (number_of r) p.offset (operand_of r))
+    refused_late z {command} e r n o = refused_command r (late_due job p joints z command e b r n o)
 
-      pub refused_late : (r : Refusal) → number_of r ≡ late_fault p.state joints command → operand_of r ≡ operand_named (number_of r) (one command) → whole ≡ stop joints rows (Refused (number_of r) p.offset (operand_of r))
-      refused_late r n o = refused_due r (late_due job p joints (sym z) command e r n o)
+    -- its tests have passed
+    module _ (z : 0 ≡ early_here job p joints) {command : Command} (e : command ≡ command_at job p.offset) (y : 0 ≡ late_fault p.state joints command) where
+      none : 0 ≡ command_fault job p joints
+      none = y ∙ late_is job p joints z command e
 
-      -- all have
-      module _ (y : 0 ≡ late_fault p.state joints command) where
-        no_fault : fault_from job p joints ≡ 0
-        no_fault = one_fault job p joints b ∙ sym (y ∙ late_is job p joints (sym z) command e)
+      passed : CommandPassed job p
+      passed = command_passed job p joints (sym none)
 
-        pub bytes_after : byte_at job p.offset ≡ 0 → p.offset + 1 < length job → whole ≡ stop joints rows (Refused 3 (p.offset + 1) 0)
-        bytes_after q m = stepped l _ (more_bytes job p joints rows rest h no_fault q m)
+      no_fault : fault_from job p joints ≡ 0
+      no_fault = one_fault job p joints b ∙ sym none
 
-        pub done : byte_at job p.offset ≡ 0 → length job ≤ p.offset + 1 → whole ≡ stop joints rows (Finished p.rows)
-        done q m = stepped l _ (finished job p joints rows rest h no_fault q m)
+      pub ranged : in_range command ≡ true
+      ranged = rw e passed.ranged
 
-        pub ranged : in_range command ≡ true
-        ranged = late_none job p joints (sym z) command e (sym y)
+      pub bytes_after : byte_at job p.offset ≡ 0 → p.offset + 1 < length job → whole ≡ stop joints rows (Refused 3 (p.offset + 1) 0)
+      bytes_after q m = stepped l _ (more_bytes job p joints rows rest h no_fault q m)
 
-        pub emits : (joints' : JointTable) (state : State) → joints' ≡ next_joints joints command → state ≡ next_state room p.state command → EmitAsks state joints' command
-        emits joints' state e₁ e₂ =
-            record {
-              state = rw e₂ (next_sound room p.state command s.asks.state ranged);
-              joints = rw e₁ (joints_sound joints command s.asks.joints ranged);
-              ranged = ranged;
-            }
+      pub done : byte_at job p.offset ≡ 0 → length job ≤ p.offset + 1 → whole ≡ stop joints rows (Finished p.rows)
+      done q m = stepped l _ (finished job p joints rows rest h no_fault q m)
 
-        -- what the command leaves
-        module _ (joints' : JointTable) (rows' : List ℤ) (offset written : ℕ) (state : State)
-            (e₂ : joints' ≡ next_joints joints command) (e₃ : state ≡ next_state room p.state command)
-            (e₄ : rows' ≡ stored_all rows p.rows (map (words p.offset (byte_of command)) (rows_from state joints' command)))
-            (e₅ : written ≡ p.rows + row_count command) (e₆ : offset ≡ p.offset + 1 + operands_width (byte_at job p.offset)) where
-          one_here : commands_here job p ≡ (p.offset, command) ∷ []
-          one_here = rw e (here_one job p b)
+      -- what the command leaves
+      module _ (joints' : JointTable) (rows' : List ℤ) (place' : Place) {behind : ℕ} (w : behind ≡ p.offset + 1 + operands_width (byte_at job p.offset))
+          (e₁ : place' ≡ record { offset = behind; count = p.count + 1; rows = p.rows + row_count command; state = next_state room p.state command })
+          (e₂ : joints' ≡ next_joints joints command)
+          (e₃ : rows' ≡ stored_all rows p.rows (map (words p.offset (byte_of command)) (rows_from place'.state joints' command))) where
+        one_here : commands_here job p ≡ (p.offset, command) ∷ []
+        one_here = rw e (here_one job p b)
 
-          own : map (words p.offset (byte_of command)) (rows_from state joints' command) ≡ rows_here room job p joints
-          unfolding rows_here rows_through
-          own = rw (one_here, e₃, e₂) (sym (append-nil (map (words p.offset (byte_of command)) (rows_from (next_state room p.state command) (next_joints joints command) command))))
+        own : map (words p.offset (byte_of command)) (rows_from place'.state joints' command) ≡ rows_here room job p joints
+        unfolding rows_here rows_through
+        own = rw (one_here, e₁, e₂) (sym (append-nil (map (words p.offset (byte_of command)) (rows_from (next_state room p.state command) (next_joints joints command) command))))
 
-          place : record { offset = offset; count = p.count + 1; rows = written; state = state } ≡ next_place room job p
-          unfolding next_place
-          place =
-              let n : written ≡ p.rows + row_counts (commands_here job p) = omega (arith, e₅, ap row_counts one_here) in
-              let o : offset ≡ after_command job p.offset = omega (arith, e₆, width_one job p.offset b) in
-              rw (n, o, e₃, one_here)
+        place : place' ≡ next_place room job p
+        unfolding next_place
+        place =
+            let n : p.rows + row_count command ≡ p.rows + row_counts (commands_here job p) = omega (arith, ap row_counts one_here) in
+            let o : behind ≡ after_command job p.offset = omega (arith, w, width_one job p.offset b) in
+            e₁ ∙ rw (n, o, one_here)
 
-          pub on : (byte_at job p.offset ≡ 0 → ⊥) → Stands room whole job rows₀ joints' rows' (record { offset = offset; count = p.count + 1; rows = written; state = state }) (left - 1)
-          on y =
-              moved room whole job rows₀ joints rows p left s l h no_fault y
-              (omega (arith, ap length one_here, count_below (byte_at job p.offset) p.count y early.few))
-              (omega (arith, early.whole, width_one job p.offset b)) (rw one_here (ranged, tt))
-              joints' rows' (record { offset = offset; count = p.count + 1; rows = written; state = state })
-              (rw (one_here, e₂)) (e₄ ∙ ap (stored_all rows p.rows) own) place
+        pub on : (byte_at job p.offset ≡ 0 → ⊥) → Stands room whole job rows₀ joints' rows' place' (left - 1)
+        on y =
+            moved room whole job rows₀ joints rows p left s l h no_fault y
+            (omega (arith, ap length one_here, count_below (byte_at job p.offset) p.count y passed.few))
+            (omega (arith, passed.whole, width_one job p.offset b)) (rw one_here (ranged, tt))
+            joints' rows' place' (rw (one_here, e₂)) (e₃ ∙ ap (stored_all rows p.rows) own) place
 
   -- ---- a block
 
@@ -145,30 +138,40 @@ module _ {room : Bool} {whole : Final} {job : List ℕ} {rows₀ : List ℤ} {jo
           by w = omega (arith, q, w)
 
       -- what the block leaves
-      module _ (rows' : List ℤ) (offset count written : ℕ)
-          (e₁ : rows' ≡ stored_all rows p.rows (set_rows_running (running p.state.wall) (p.offset + 2) (sets_of job p.offset)))
-          (e₂ : written ≡ p.rows + count_at job p.offset) (e₃ : offset ≡ p.offset + 2 + 24 * count_at job p.offset) (e₄ : count ≡ p.count + count_at job p.offset) where
+      module _ (sets : List ℕ) (e : sets ≡ slice_range job (p.offset + 2) (p.offset + 2 + 24 * count_at job p.offset)) (rows' : List ℤ) (written : ℕ)
+          (e₁ : rows' ≡ stored_all rows p.rows (set_rows_running (running p.state.wall) (p.offset + 2) (storeys_in sets))) (e₂ : written ≡ p.rows + length sets / 24) where
         block_here : commands_here job p ≡ storeys_from (p.offset + 2) (sets_of job p.offset)
         block_here = here_block job p b
 
-        block_own : set_rows_running (running p.state.wall) (p.offset + 2) (sets_of job p.offset) ≡ rows_here room job p joints
-        unfolding rows_here
-        block_own = sym (ap (rows_through room p.state joints) block_here ∙ set_rows_through room p.state joints (p.offset + 2) (sets_of job p.offset))
+        width : length sets ≡ 24 * count_at job p.offset
+        width = sets_width job p.offset tested_block.whole e
 
-        block_place : record { offset = offset; count = count; rows = written; state = p.state } ≡ next_place room job p
+        counted : length sets / 24 ≡ count_at job p.offset
+        counted = omega (arith, width)
+
+        block_own : set_rows_running (running p.state.wall) (p.offset + 2) (storeys_in sets) ≡ rows_here room job p joints
+        unfolding rows_here
+        block_own =
+            ap (set_rows_running (running p.state.wall) (p.offset + 2)) (sets_here job p.offset tested_block.whole e)
+            ∙ sym (ap (rows_through room p.state joints) block_here ∙ set_rows_through room p.state joints (p.offset + 2) (sets_of job p.offset))
+
+        abbrev block_behind : Place
+        block_behind = record { offset = p.offset + 2 + length sets; count = p.count + length sets / 24; rows = written; state = p.state }
+
+        block_place : block_behind ≡ next_place room job p
         unfolding next_place
         block_place =
             let n : written ≡ p.rows + row_counts (commands_here job p) =
-            omega (arith, e₂, ap row_counts block_here, storeys_counted (p.offset + 2) (sets_of job p.offset), storeys_length (count_at job p.offset) job (p.offset + 2)) in
-            let o : offset ≡ after_command job p.offset = omega (arith, e₃, width_block job p.offset b) in
-            let c : count ≡ p.count + length (commands_here job p) = omega (arith, e₄, block_many job p b) in
+            omega (arith, e₂, counted, ap row_counts block_here, storeys_counted (p.offset + 2) (sets_of job p.offset), storeys_length (count_at job p.offset) job (p.offset + 2)) in
+            let o : p.offset + 2 + length sets ≡ after_command job p.offset = omega (arith, width, width_block job p.offset b) in
+            let c : p.count + length sets / 24 ≡ p.count + length (commands_here job p) = omega (arith, counted, block_many job p b) in
             rw (n, o, c, block_here, state_kept room p.state joints (p.offset + 2) (sets_of job p.offset))
 
-        pub block_on : Stands room whole job rows₀ joints rows' (record { offset = offset; count = count; rows = written; state = p.state }) (left - 1)
+        pub block_on : Stands room whole job rows₀ joints rows' block_behind (left - 1)
         block_on =
             moved room whole job rows₀ joints rows p left s l h (many_fault job p joints b ∙ sym z) no_end_byte
             (omega (arith, block_many job p b, tested_block.few))
             (omega (arith, tested_block.whole, width_block job p.offset b))
-            (rw block_here (storeys_in (p.offset + 2) (sets_of job p.offset) tested_block.ranged))
-            joints rows' (record { offset = offset; count = count; rows = written; state = p.state })
+            (rw block_here (all_in_storeys (p.offset + 2) (sets_of job p.offset) tested_block.ranged))
+            joints rows' block_behind
             (sym (ap (joints_through joints) block_here ∙ joints_kept joints (p.offset + 2) (sets_of job p.offset))) (e₁ ∙ ap (stored_all rows p.rows) block_own) block_place

@@ -1,9 +1,10 @@
 -- The walk in the shape of the code. proofs/ joins it to the placed commands. `room` tells whether rows are to be written.
 use Rattle.std.specs.Prelude.{◌≡◌, None, Bool, true, not, cond, List, [], ◌∷◌, ◌++◌, map, Result, Ok, Err, ℕ, zero, suc, ◌+◌, ◌-◌, ◌*◌, ◌≤◌, ◌<◌, eqb, leb, ltb, ℤ, length, replicate}
-use Rattle.layout.specs.Layouts.{known, operands_width}
-use Rattle.layout.specs.Operands.{byte_at}
+use Rattle.layout.specs.declared.Kind.{Kind}
+use Rattle.layout.specs.Layouts.{known, byte_of_kind, operands_width}
+use Rattle.layout.specs.Operands.{byte_at, operand}
 use Rattle.format.specs.declared.Command.{Command}
-use Rattle.format.specs.Commands.{byte_of}
+use Rattle.format.specs.Commands.{byte_of, command_of}
 use Rattle.format.specs.Reading.{command_at}
 use Rattle.blocks.specs.Sets.{is_block, count_at, sets_of}
 use Rattle.blocks.specs.FileCommands.{file_command_at, commands_from}
@@ -16,14 +17,11 @@ use Rattle.job.specs.declared.Place.{Place}
 use Rattle.job.specs.declared.Refused.{Refused as RefusedAt}
 use Rattle.job.specs.declared.Progress.{Progress}
 use Rattle.job.specs.declared.Progress.TheVariants as progress
-use Rattle.job.specs.declared.Walked.{Walked}
 use Rattle.job.specs.declared.Stretch.{Stretch}
 use Rattle.job.specs.declared.Stretch.TheVariants as stretch
-use Rattle.job.specs.declared.StretchEnd.{StretchEnd}
-use Rattle.job.specs.declared.Accepted.{Accepted}
 use Rattle.job.specs.Faults.{after_command, too_many, misplaced, out_of_range, count_missing, count_out_of_range, passes_limit, set_out_of_range, first_of, operand_named}
 use Rattle.job.specs.Refusals.{number_of, operand_of}
-use Rattle.job.specs.Answers.{Answer, rows_answer, refused_with, FaultAnswer, no_fault, fault_with}
+use Rattle.job.specs.Answers.{FaultAnswer, no_fault, fault_with}
 
 -- the tests that need a command's byte alone: by the job's length, the command's offset and byte, the commands before it, and
 -- whether settings are given
@@ -37,6 +35,10 @@ early_tests bytes at byte count settings_given =
 
 unfoldable pub early_fault : ℕ → ℕ → ℕ → ℕ → Bool → ℕ
 early_fault bytes at byte count settings_given = first_of (early_tests bytes at byte count settings_given)
+
+-- the command of a kind, from the bytes of its operands
+abbrev pub command_in : Kind → List ℕ → Command
+command_in kind operands = command_of (byte_of_kind kind) (operand (byte_of_kind kind) operands 0)
 
 -- the two that need the command: by the state and the joints that are given
 abbrev pub late_tests : State → JointTable → Command → List (Bool × ℕ)
@@ -89,8 +91,8 @@ abbrev pub progress_answer : Progress → WalkAnswer
 progress_answer (progress.Finished n) = Finished n
 progress_answer (progress.Paused p) = Paused p
 
-abbrev pub walk_answer : Result Walked RefusedAt → WalkAnswer
-walk_answer (Ok w) = progress_answer w.progress
+abbrev pub walk_answer : Result Progress RefusedAt → WalkAnswer
+walk_answer (Ok p) = progress_answer p
 walk_answer (Err r) = refused_there r
 
 -- ---- the commands that the one at a place gives
@@ -184,8 +186,8 @@ abbrev pub StretchedTo : Bool → ℕ → Final → List ℕ → JointTable → 
 StretchedTo room budget whole job joints memory (stretch.Ended p) = whole ≡ record { answer = progress_answer p; joints = joints; memory = memory }
 StretchedTo room budget whole job joints memory (stretch.Block p left) = BeforeBlock room budget whole job joints memory p left
 
-abbrev pub Stretched : Bool → ℕ → Final → List ℕ → JointTable → List ℤ → Result StretchEnd RefusedAt → Type 0
-Stretched room budget whole job joints memory (Ok s) = StretchedTo room budget whole job joints memory s.stretch
+abbrev pub Stretched : Bool → ℕ → Final → List ℕ → JointTable → List ℤ → Result Stretch RefusedAt → Type 0
+Stretched room budget whole job joints memory (Ok s) = StretchedTo room budget whole job joints memory s
 Stretched room budget whole job joints memory (Err r) = whole ≡ record { answer = refused_there r; joints = joints; memory = memory }
 
 -- ---- the step over a block
@@ -209,10 +211,6 @@ BlockStepped room job p before after (Ok q) =
 
 -- ---- the answers of a walk over a whole job: one from the start ends within 4,097 commands and never pauses
 
-abbrev pub walked_answer : Result Accepted RefusedAt → Answer
-walked_answer (Ok a) = rows_answer a.rows
-walked_answer (Err r) = refused_with r
-
-abbrev pub walked_fault : List ℕ → Result Accepted RefusedAt → FaultAnswer
-walked_fault job (Ok a) = no_fault
+abbrev pub walked_fault : List ℕ → Result ℕ RefusedAt → FaultAnswer
+walked_fault job (Ok n) = no_fault
 walked_fault job (Err r) = fault_with r (byte_at job r.offset)

@@ -23,20 +23,6 @@ byte_of_found b k =
     (is_kind Hingeless k) (is_kind WallBase k) (is_kind Storey k) (is_kind Soil k) (is_kind Footing k) (is_kind Detail k)
     (λ b h e. let n = kind_above b h in cc) b
 
-pub kind_of_byte : (k : Kind) → kind_of (byte_of_kind k) ≡ Some k
-unfolding kind_of
-kind_of_byte Finish = refl
-kind_of_byte Settings = refl
-kind_of_byte Joint = refl
-kind_of_byte Column = refl
-kind_of_byte Beam = refl
-kind_of_byte Hingeless = refl
-kind_of_byte WallBase = refl
-kind_of_byte Storey = refl
-kind_of_byte Soil = refl
-kind_of_byte Footing = refl
-kind_of_byte Detail = refl
-
 pub known_kind : (k : Kind) → known (byte_of_kind k) ≡ true
 unfolding known known_in
 known_kind Finish = refl
@@ -60,10 +46,3 @@ unfolding kind_of
 unknown b =
     each_byte (λ b. kind_of b ≡ None → known b ≡ false) (λ e. cc) (λ e. cc) (λ e. cc) (λ e. cc) (λ e. cc) (λ e. cc) (λ e. cc) (λ e. cc) (λ e. cc) (λ e. cc) (λ e. cc)
     (λ b h e. known_above b h) b
-
--- and has no operands otherwise
-pub none_above : (b : ℕ) → kind_of b ≡ None → 10 < b
-unfolding kind_of
-none_above b =
-    each_byte (λ b. kind_of b ≡ None → 10 < b) (λ e. cc) (λ e. cc) (λ e. cc) (λ e. cc) (λ e. cc) (λ e. cc) (λ e. cc) (λ e. cc) (λ e. cc) (λ e. cc) (λ e. cc)
-    (λ b h e. h) b

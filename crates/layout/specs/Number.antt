@@ -1,5 +1,5 @@
 -- Numbers in a file: big-endian, unsigned, and an i32 by its 32 bits. 01, "Job commands".
-use Rattle.std.specs.Prelude.{cond, List, [], ◌∷◌, ◌≡◌, ℕ, ◌+◌, ◌-◌, ◌*◌, ◌≤◌, ltb, length, ℤ, pos, negsuc}
+use Rattle.std.specs.Prelude.{cond, List, [], ◌∷◌, ℕ, ◌+◌, ◌-◌, ◌*◌, ltb, ℤ, pos, negsuc}
 
 -- the number so far, then the bytes that follow it
 unfoldable pub number_after : ℕ → List ℕ → ℕ

@@ -110,7 +110,7 @@ fn upper_shear(nonseismic: i32, shear: Quotient) -> i64
     Sum::new(i64::from(nonseismic), shear.num as i64, shear.den).up()
 }
 
-// V0 − D, down.
+// V0 − D, down. Not one function with the one above: they differ in the sign and the rounding, each one line over `Sum`.
 fn lower_shear(nonseismic: i32, shear: Quotient) -> i64
     requires { AddRange nonseismic shear }
     ensures { result ≡ down_s (whole_s nonseismic -S signed (fraction shear)) }

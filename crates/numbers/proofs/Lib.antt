@@ -1,4 +1,4 @@
--- Laws of numbers as bytes: stored byte by byte, by their sign, written and read back. Assumes nothing.
+-- Laws of numbers as bytes: the last bytes of 32 bits, the bits of an i32, written and read back. Assumes nothing.
 mod Stores
 mod Signs
 pub mod BigEndian

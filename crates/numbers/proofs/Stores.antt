@@ -1,15 +1,13 @@
--- The last bytes of a number of 32 bits are that number with its most significant byte first; put into a slice, they stand there.
--- Assumes nothing.
-use mathlib.Core.List.{List, [], ◌∷◌, ◌++◌, append_assoc}
+-- The last bytes of a number of 32 bits are that number with its most significant byte first. Assumes nothing.
+use mathlib.Core.List.{List, [], ◌∷◌, ◌++◌, append-nil}
 use mathlib.Core.Path.{◌≡◌, refl, sym, ap}
-use Prim.Native.Nat.{ℕ, zero, suc, ◌+◌, ◌-◌, ◌/◌, ◌%◌, ◌^◌, ◌≤◌}
+use Prim.Native.Nat.{ℕ, zero, suc, ◌-◌, ◌/◌, ◌%◌, ◌^◌, ◌≤◌}
 use native.Mathlib.Nat.{div-one}
 use native.Mathlib.Omega.{arith}
 use lib.ListN.{length, take, drop}
-use lib.Seq.{drop-drop}
+use lib.Seq.{drop-length}
 use mir.Syntax.{w32}
 use Rattle.std.specs.Int.{bytes_high_first, to_be_bytes}
-use Rattle.slices.specs.Written.{written}
 use Rattle.numbers.specs.BigEndian.{big_endian}
 
 high_first : (n v : ℕ) → bytes_high_first n v ≡ big_endian n v
@@ -30,9 +28,6 @@ last_bytes (suc (suc (suc (suc (suc n))))) v h = absurd (more n h)
     more : (n : ℕ) → suc (suc (suc (suc (suc n)))) ≤ 4 → ⊥
     more n h = omega arith
 
--- a text in the place of as many bytes from a position on
-pub placed : (before : List ℕ) (at n : ℕ) (text : List ℕ) → length text ≡ n → take at before ++ (text ++ drop (at + n - at) (drop at before)) ≡ written before at text
-unfolding written
-placed before at n text e =
-    let k : at + n - at ≡ n = omega arith in
-    rw (k, drop-drop n at before, ← append_assoc (take at before) text (drop (at + n) before), e)
+-- a text in the place of a whole slice
+pub filled : (before : List ℕ) (n : ℕ) (text : List ℕ) → length before ≡ n → text ++ drop n before ≡ text
+filled before n text e = rw (← e, drop-length) (append-nil text)

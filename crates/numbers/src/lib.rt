@@ -1,25 +1,24 @@
-// Numbers of 1, 2 and 4 bytes put into a lent slice, the most significant byte first. 01, "Job commands": "operands of fixed width,
+// Numbers of 1, 2 and 4 bytes put into a slice of as many, the most significant byte first. 01, "Job commands": "operands of fixed width,
 // big-endian"; 02, No. 2.
 #![tactic(auto)]
 
-ghost use Rattle.std.specs.Prelude.{◌≡◌, ◌+◌, ◌≤◌, length};
-ghost use Rattle.slices.specs.Written.{Put};
+ghost use Rattle.std.specs.Prelude.{◌≡◌, ◌≤◌, length};
 ghost use Rattle.layout.specs.Number.{bits32};
 ghost use Rattle.numbers.specs.BigEndian.{big_endian};
 
-// The last N bytes of a number, from a position on.
-pub fn put<const N: usize>(bytes: &mut [u8], at: usize, value: u32)
-    requires room { at + N ≤ length bytes.old }
+// The last N bytes of a number, in a slice of as many.
+pub fn put<const N: usize>(bytes: &mut [u8], value: u32)
+    requires room { length bytes.old ≡ N }
     requires width { N ≤ 4 }
-    ensures { Put bytes.old at (big_endian N value) bytes.new }
+    ensures { bytes.new ≡ big_endian N value }
 {
-    bytes[at..at + N].copy_from_slice(&value.to_be_bytes()[4 - N..]);
+    bytes[..N].copy_from_slice(&value.to_be_bytes()[4 - N..]);
 }
 
-// The four bytes of an i32, from a position on.
-pub fn put_signed(bytes: &mut [u8], at: usize, value: i32)
-    requires { at + 4 ≤ length bytes.old }
-    ensures { Put bytes.old at (big_endian 4 (bits32 value)) bytes.new }
+// The four bytes of an i32.
+pub fn put_signed(bytes: &mut [u8], value: i32)
+    requires { length bytes.old ≡ 4 }
+    ensures { bytes.new ≡ big_endian 4 (bits32 value) }
 {
-    put::<4>(bytes, at, value.cast_unsigned());
+    put::<4>(bytes, value.cast_unsigned());
 }

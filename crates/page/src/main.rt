@@ -3,6 +3,7 @@
 
 use console::Program;
 
+// The program `listing` has a `main` like it: what both share is `Program::print`, and each names what is its own.
 fn main(rt: HostRuntime) {
     let page = Program {
         name: "page",

@@ -27,14 +27,6 @@ second_false false b e = e
 
 -- ---- values side by side
 
-pub wide_more : (ws : List ℕ) (vs : List ℤ) (i : ℕ) → i < length ws → i < length vs →
-    any_too_wide (drop i ws) (drop i vs) ≡ (too_wide (get_or ws i 0) (get_or vs i (pos 0)) || any_too_wide (drop (suc i) ws) (drop (suc i) vs))
-unfolding any_too_wide
-wide_more [] vs i h k = absurd (omega arith)
-wide_more (w ∷ ws) [] i h k = absurd (omega arith)
-wide_more (w ∷ ws) (v ∷ vs) zero h k = refl
-wide_more (w ∷ ws) (v ∷ vs) (suc i) h k = wide_more ws vs i (omega arith) (omega arith)
-
 abbrev sum : List ℕ → ℕ
 sum [] = 0
 sum (w ∷ ws) = w + sum ws
@@ -102,6 +94,9 @@ module _ (row : List ℤ) (eight : length row ≡ 8) where
   module _ {line : List ℕ} {at i : ℕ} (p : LinePart row line at i) (h : i < 8) where
     pub line_room : at + get_or widths i 0 ≤ 80
     line_room = let n = sum_next widths i h in omega (arith, n.0, n.1, p.place)
+
+    pub field_size : {width : ℕ} → width ≡ get_or widths i 0 → length (take (at + width - at) (drop at line)) ≡ width
+    field_size {width} w = mid_len at (at + width) line (omega (arith, line_room, p.long, w)) ∙ omega arith
 
     pub narrow_word : any_too_wide widths row ≡ false → too_wide (get_or widths i 0) (get_or row i (pos 0)) ≡ false
     narrow_word e = narrow_at widths row i h (omega arith) e

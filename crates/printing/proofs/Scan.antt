@@ -1,44 +1,31 @@
--- The search for a value that is too wide: what holds at each turn, over the words of a row and over the rows. Assumes nothing.
+-- The search for a value that is too wide, over the words of a row and over the rows. Assumes nothing.
 use mathlib.Core.Path.{◌≡◌, refl, sym, ap, ◌∙◌}
 use mathlib.Core.Bool.{Bool, true, false, ◌||◌, true≢false}
 use mathlib.Core.Logic.{⊎_elim}
 use mathlib.Core.List.{List, [], ◌∷◌, ◌++◌}
-use Prim.Native.Nat.{ℕ, zero, suc, ◌+◌, ◌≤◌, ◌<◌}
+use Prim.Native.Nat.{ℕ, zero, suc, ◌≤◌, ◌<◌}
 use native.Mathlib.Nat.{eq-or-lt_of_le}
-use native.Mathlib.Numerals.{add-one}
 use native.Mathlib.Omega.{arith}
-use lib.IntN.{ℤ, pos}
-use lib.ListN.{length, get_or, drop}
-use Rattle.std.specs.List.{list_any}
+use lib.IntN.{ℤ}
+use Rattle.std.specs.List.{list_any, zip}
 use Rattle.std.specs.Simd.{first_chunks}
 use Rattle.slices.proofs.Rows.{chunks_more}
 use Rattle.text.specs.Lines.{row_words}
 use Rattle.printing.specs.Page.{widths}
 use Rattle.printing.specs.Answers.{too_wide, any_too_wide, page_too_wide}
-use Rattle.printing.proofs.LineSteps.{wide_more, second_false}
+use Rattle.printing.proofs.LineSteps.{second_false}
 
 -- ---- the words of a row
 
--- the words before word i are not too wide
-abbrev pub NoneBefore : List ℤ → ℕ → Type 0
-NoneBefore row i = any_too_wide widths row ≡ any_too_wide (drop i widths) (drop i row)
-
-module _ (row : List ℤ) (eight : length row ≡ 8) (i : ℕ) (h : i < 8) (p : NoneBefore row i) where
-  pub found : too_wide (get_or widths i 0) (get_or row i (pos 0)) ≡ true → any_too_wide widths row ≡ true
-  found e = p ∙ wide_more widths row i h (omega arith) ∙ rw e
-
-  pub passed : too_wide (get_or widths i 0) (get_or row i (pos 0)) ≡ false → NoneBefore row (i + 1)
-  passed e = p ∙ wide_more widths row i h (omega arith) ∙ rw (e, add-one)
-
-pub none_found : (row : List ℤ) → NoneBefore row 8 → any_too_wide widths row ≡ false
+-- the test of each word and its width
+pub any_word : (ws : List ℕ) (vs : List ℤ) → list_any (λ (p : ℤ × ℕ). too_wide p.1 p.0) (zip vs ws) ≡ any_too_wide ws vs
 unfolding any_too_wide
-none_found row p = p
+any_word [] [] = refl
+any_word (w ∷ ws) [] = refl
+any_word [] (v ∷ vs) = refl
+any_word (w ∷ ws) (v ∷ vs) = ap (λ b. too_wide w v || b) (any_word ws vs)
 
 -- ---- the rows
-
-pub row_found : (words : List ℤ) (row : ℕ) → any_too_wide widths (row_words words row) ≡ true → page_too_wide words row ≡ false → page_too_wide words (suc row) ≡ true
-unfolding page_too_wide
-row_found words row e p = rw (p, e)
 
 pub row_passed : (words : List ℤ) (row : ℕ) → any_too_wide widths (row_words words row) ≡ false → page_too_wide words row ≡ false → page_too_wide words (suc row) ≡ false
 unfolding page_too_wide

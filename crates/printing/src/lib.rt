@@ -1,7 +1,7 @@
 // The call `page`: rows of results as the lines of a printed page, written into a lent slice. It has no `requires`. 02, No. 3.
 #![tactic(auto)]
 
-ghost use Rattle.std.specs.Prelude.{◌≡◌, false, ◌*◌, ◌≤◌, ◌<◌, leb, length};
+ghost use Rattle.std.specs.Prelude.{◌≡◌, Err, false, ◌*◌, ◌≤◌, ◌<◌, leb, length};
 ghost use Rattle.slices.specs.Written.{Writes};
 ghost use Rattle.printing.specs.Page.{widths, right_aligned, page_line, feed_after, page_text, page_length};
 ghost use Rattle.printing.specs.Answers.{too_wide, any_too_wide, page_too_wide, page_answer, page_of, bytes_after};
@@ -11,7 +11,7 @@ use itoa::Buffer;
 const FORM_FEED: u8 = 12;
 
 // Why no page is printed. `page_answer` gives 02's number, offset and rows of each.
-#[derive(Clone, Copy)]
+#[derive(Clone, Copy, Debug, PartialEq, Eq)]
 pub enum PageError {
     // Refusal 9: the rows needed.
     TooFewWords(usize),
@@ -19,6 +19,19 @@ pub enum PageError {
     TooWide,
     // Refusal 11: the slice cannot hold the page.
     TooShort,
+}
+
+impl PageError {
+    // Its number in 02.
+    pub fn number(self) -> u32
+        ensures { result ≡ (page_answer (Err self)).number }
+    {
+        match self {
+            PageError::TooFewWords(_) => 9,
+            PageError::TooWide => 12,
+            PageError::TooShort => 11,
+        }
+    }
 }
 
 // ---- one row
@@ -33,16 +46,15 @@ fn too_wide(value: i64, width: usize) -> bool
     Buffer::new().format(value).len() >= width
 }
 
-// Whether a value of a row is too wide. A loop: within `any`, that a value read back from its bits is the row's could not be proved.
+// Whether a value of a row is too wide. The closure's clause is of the value itself: without it, it would be of the value's bits.
 fn row_too_wide(row: &[i64; 8]) -> bool
     ensures { result ≡ any_too_wide widths row.now }
 {
-    for (i, value) in row.iter().enumerate() {
-        if too_wide(*value, WIDTHS[i]) {
-            return true;
-        }
-    }
-    false
+    row.iter().zip(&WIDTHS).any(
+        |(value, width)|
+            ensures { result ≡ too_wide width.entry.now value.entry.now }
+        { too_wide(*value, *width) },
+    )
 }
 
 // A value, right-aligned: its size up to the end of blanks, and a minus before it where it is negative.
@@ -64,9 +76,10 @@ fn put_line(line: &mut [u8], row: &[i64; 8])
     requires room { length line.old ≡ 81 }
     ensures { line.new ≡ page_line row.now }
 {
+    // where the next field begins: the sum of the widths so far, which `zip` does not give
     let mut at = 0;
-    for (i, value) in row.iter().enumerate() {
-        let end = at + WIDTHS[i];
+    for (value, width) in row.iter().zip(&WIDTHS) {
+        let end = at + *width;
         put_value(&mut line[at..end], *value);
         at = end;
     }

@@ -16,7 +16,11 @@ use Rattle.job.specs.Placed.{Placed, Job, refused, accepted, placed, all_rows}
 use Rattle.layout.proofs.Numbers.{Bytes}
 use Rattle.printing.specs.Answers.{page_too_wide}
 use Rattle.capacity.proofs.PageOfRun.{none_too_wide}
-use Rattle.capacity.specs.Calls.{RunAnswer, totals_of, ran_answer, refused_run, too_short_run, run_from, run_of, rows_from, rows_after}
+use Rattle.std.specs.Prelude.{Err}
+use Rattle.job.specs.Refusals.{number_of}
+use Rattle.capacity.specs.declared.RunError.{RunError}
+use Rattle.capacity.specs.declared.RunError.TheVariants.{Refused, TooShort}
+use Rattle.capacity.specs.Calls.{run_answer, RunAnswer, totals_of, ran_answer, refused_run, too_short_run, run_from, run_of, rows_from, rows_after}
 use Rattle.capacity.proofs.Numbers.{run_numbers}
 use Rattle.report.specs.Printed.{most_bytes, most_rows, accepted_text, job_text, printed_of}
 use Rattle.totals.specs.declared.Totals.{Totals}
@@ -49,7 +53,7 @@ module _ (paged : Bool) where
       (λ y q. absurd (true≢false (sym (ap (λ (a : RunAnswer). a.accepted) q))))
       (λ y q. absurd (lt_irrefl 0 (omega (arith, leb-false (8 * length (all_rows ps)) lent y, ap (λ (a : RunAnswer). a.needed) q)))) e
 
-  pub refused_text : (job : List ℕ) (number offset : ℕ) → refused_run number offset ≡ run_of job lent → job_text (rows_text paged) (placed job) ≡ refused_line number offset
+  refused_text : (job : List ℕ) (number offset : ℕ) → refused_run number offset ≡ run_of job lent → job_text (rows_text paged) (placed job) ≡ refused_line number offset
   unfolding run_of
   refused_text job number offset e = refused_from number offset (placed job) e
 
@@ -65,14 +69,14 @@ module _ (paged : Bool) where
       let l = lt-leb (length (all_rows ps)) most_rows (omega (arith, leb-false (8 * length (all_rows ps)) lent y)) in
       rw l (ap (refused_line 9) (sym (ap (λ (a : RunAnswer). a.needed) q)))) e
 
-  pub short_text : (job : List ℕ) (n : ℕ) → too_short_run n ≡ run_of job lent → job_text (rows_text paged) (placed job) ≡ refused_line 9 n
+  short_text : (job : List ℕ) (n : ℕ) → too_short_run n ≡ run_of job lent → job_text (rows_text paged) (placed job) ≡ refused_line 9 n
   unfolding run_of
   short_text job n e = short_from n (placed job) e
 
   -- ---- rows
 
   -- the rows are few enough, and what is printed is the text of the words that `run` left
-  pub record Shown (j : Job) (n : ℕ) (words : List ℤ) : Type 0 where
+  record Shown (j : Job) (n : ℕ) (words : List ℤ) : Type 0 where
     pub few : n ≤ most_rows
     pub text : job_text (rows_text paged) j ≡ rows_text paged words n
 
@@ -90,21 +94,40 @@ module _ (paged : Bool) where
       record { few = omega arith; text = rw (l, room, c) (sym same) })
       (λ y q. absurd (true≢false (ap (λ (a : RunAnswer). a.accepted) q))) e
 
-  pub rows_text_lem : (job : List ℕ) (t : Totals) (m : List ℤ) → length m ≡ lent → length (rows_after job m) ≡ lent → ran_answer t ≡ run_of job lent → Shown (placed job) t.rows (rows_after job m)
+  rows_text_lem : (job : List ℕ) (t : Totals) (m : List ℤ) → length m ≡ lent → length (rows_after job m) ≡ lent → ran_answer t ≡ run_of job lent → Shown (placed job) t.rows (rows_after job m)
   unfolding run_of rows_after
   rows_text_lem job t m k kept e = rows_from_lem t m k (placed job) kept e
 
-module _ (job : List ℕ) (t : Totals) (m : List ℤ) (k : length m ≡ lent) (e : ran_answer t ≡ run_of job lent) where
-  answered : run_of job (length m) ≡ ran_answer t
-  answered = ap (run_of job) k ∙ sym e
+-- the words that `run` left, and its totals: those of the rows, of which no value is too wide for a page
+pub record Listed (j : Job) (words : List ℤ) (t : Totals) : Type 0 where
+  pub few : t.rows ≤ most_rows
+  pub whole : 8 * t.rows ≤ length words
+  pub totals : TotalsOf words t
+  pub narrow : page_too_wide words t.rows ≡ false
+  pub text : (paged : Bool) → job_text (rows_text paged) j ≡ rows_text paged words t.rows
 
-  -- no value of the rows is too wide for a page
-  pub narrow_rows : Bytes job → page_too_wide (rows_after job m) t.rows ≡ false
-  narrow_rows b = none_too_wide job b m (ap (λ (a : RunAnswer). a.accepted) answered) t.rows (omega (arith, ap (λ (a : RunAnswer). a.rows) answered))
+module _ (job : List ℕ) (b : Bytes job) (m : List ℤ) (k : length m ≡ lent) where
+  pub listed : (t : Totals) → ran_answer t ≡ run_of job (length m) → (words : List ℤ) → words ≡ rows_after job m → length words ≡ length m → Listed (placed job) words t
+  listed t e words w kept =
+      let shown = λ (paged : Bool). rows_text_lem paged job t m k (ap length (sym w) ∙ kept ∙ k) (e ∙ ap (run_of job) k) in
+      let few = (shown true).few in
+      let numbers = subst (λ (a : RunAnswer). NumbersOf a (rows_after job m)) (sym e) (run_numbers job b m) in
+      record {
+        few = few;
+        whole = omega (arith, kept, k);
+        totals = rw w (record { failed = numbers.failed_counted; checks = numbers.checks_counted });
+        narrow = rw w (none_too_wide job b m (ap (λ (a : RunAnswer). a.accepted) (sym e)) t.rows (omega (arith, ap (λ (a : RunAnswer). a.rows) e)));
+        text = λ paged. (shown paged).text ∙ ap (λ x. rows_text paged x t.rows) (sym w);
+      }
 
-  -- the totals are those of the rows
-  pub totals_of_lem : Bytes job → TotalsOf (rows_after job m) t
-  totals_of_lem b = let n = subst (λ (a : RunAnswer). NumbersOf a (rows_after job m)) answered (run_numbers job b m) in record { failed = n.failed_counted; checks = n.checks_counted }
+-- what is printed behind the number of a refusal: its offset, or the rows needed
+abbrev pub told : RunError → ℕ
+told (Refused r) = r.offset
+told (TooShort n) = n
+
+pub error_text : (paged : Bool) (job : List ℕ) (e : RunError) → run_answer (Err e) ≡ run_of job lent → job_text (rows_text paged) (placed job) ≡ refused_line (run_answer (Err e)).number (told e)
+error_text paged job (Refused r) a = refused_text paged job (number_of r.refusal) r.offset a
+error_text paged job (TooShort n) a = short_text paged job n a
 
 -- ---- the room of a line and of a listing
 

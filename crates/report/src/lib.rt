@@ -3,74 +3,60 @@
 
 ghost use Rattle.std.specs.Prelude.{◌≡◌, false, ◌+◌, ◌*◌, ◌≤◌, length};
 ghost use Rattle.slices.specs.Written.{WritesAtMost};
-ghost use Rattle.job.specs.Placed.{placed};
-ghost use Rattle.printing.specs.Page.{page_text};
 ghost use Rattle.printing.specs.Answers.{page_too_wide};
-ghost use Rattle.report.specs.Printed.{job_text, printed_of};
-ghost use Rattle.report.specs.Listing.{rows_listing, listing_of, TotalsOf};
+ghost use Rattle.report.specs.Printed.{printed_of};
+ghost use Rattle.report.specs.Listing.{listing_of, TotalsOf};
 ghost use Rattle.report.specs.Page.{rows_text};
 
 use capacity::RunError;
 use totals::Totals;
 
 // The greatest job, in bytes.
-const MOST_BYTES: usize = 65536;
+pub const MOST_BYTES: usize = 65536;
 
-// The rows of these totals, and the totals. What is asked of rows and slice is no struct: it would hold both for a single call.
-fn put_rows(rows: &[i64], totals: Totals, out: &mut [u8]) -> usize
-    requires { (8 * totals.rows ≤ length rows.now) × TotalsOf rows.now totals × (168 * totals.rows + 82 ≤ length out.old) }
-    ensures { WritesAtMost (168 * totals.rows + 82) out.old 0 (rows_listing rows.now totals.rows) out.new result }
-{
-    text::put_listing(out, rows, totals)
-}
+// The longest text of a job: 1,024 rows of 168 bytes, and the totals of 82.
+pub const MOST_TEXT: usize = 172114;
 
-// The page of the first n rows.
-fn put_page(rows: &[i64], n: usize, out: &mut [u8]) -> usize
-    requires { (8 * n ≤ length rows.now) × (page_too_wide rows.now n ≡ false) × (168 * n + 82 ≤ length out.old) }
-    ensures { WritesAtMost (168 * n + 82) out.old 0 (page_text rows.now n) out.new result }
-{
-    capacity::page(rows, n, out).unwrap_or(0)
-}
+// Refusal 10: the job is greater. A number and no case of an enum: the line of a refusal prints numbers.
+const TOO_LONG: u64 = 10;
 
 // The rows of these totals, as a page or as a listing. A flag and one `if`: a trait would need a type for each of the two, and a law that
-// both texts depend on the first rows alone.
+// both texts depend on the first rows alone. What is asked of rows and slice is no struct: it would hold both for a single call.
 fn put_text(rows: &[i64], totals: Totals, paged: bool, out: &mut [u8]) -> usize
-    requires { (8 * totals.rows ≤ length rows.now) × TotalsOf rows.now totals × (page_too_wide rows.now totals.rows ≡ false) × (168 * totals.rows + 82 ≤ length out.old) }
+    requires words { 8 * totals.rows ≤ length rows.now }
+    requires totals { TotalsOf rows.now totals }
+    requires narrow { page_too_wide rows.now totals.rows ≡ false }
+    requires room { 168 * totals.rows + 82 ≤ length out.old }
     ensures { WritesAtMost (168 * totals.rows + 82) out.old 0 (rows_text paged rows.now totals.rows) out.new result }
 {
     if paged {
-        put_page(rows, totals.rows, out)
+        capacity::page(rows, totals.rows, out).unwrap_or(0)
     } else {
-        put_rows(rows, totals, out)
+        text::put_listing(out, rows, totals)
     }
 }
 
-// What is printed of a job whose bytes are few enough. The rows are lent; there is room for 1,024. The slice's length is asked for by a
-// clause: an array of it would keep out a caller with a longer slice.
-fn put_job(job: &[u8], rows: &mut [i64; 8192], paged: bool, out: &mut [u8]) -> usize
-    requires { 172114 ≤ length out.old }
-    ensures { WritesAtMost 172114 out.old 0 (job_text (rows_text paged) (placed job.now)) out.new result }
-{
-    match capacity::run(job, rows) {
-        Ok(totals) => put_text(rows, totals, paged, out),
-        Err(RunError::Refused(refused)) => {
-            let number = refused.refusal.number();
-            text::put_refused(out, u64::from(number), refused.offset as u64)
-        }
-        Err(RunError::TooShort(n)) => text::put_refused(out, 9, n as u64),
-    }
-}
-
-// What is printed of a job, from the start of the slice; answers its length.
+// What is printed of a job, from the start of the slice; answers its length. There is room for 1,024 rows. The slice's length is asked for
+// by a clause, and not by an array type, which would ask more: a caller may have a longer slice.
 pub fn printed_text(job: &[u8], paged: bool, out: &mut [u8]) -> usize
     requires { 172114 ≤ length out.old }
     ensures { WritesAtMost 172114 out.old 0 (printed_of (rows_text paged) job.now) out.new result }
 {
     if job.len() > MOST_BYTES {
-        return text::put_refused(out, 10, 0);
+        return text::put_refused(out, TOO_LONG, 0);
     }
     let mut rows = [0i64; 8192];
-    put_job(job, &mut rows, paged, out)
+    match capacity::run(job, &mut rows) {
+        Ok(totals) => put_text(&rows, totals, paged, out),
+        Err(error) => {
+            // refusal 9 prints the rows needed
+            let offset = match error {
+                RunError::Refused(refused) => refused.offset,
+                RunError::TooShort(needed) => needed,
+            };
+            text::put_refused(out, u64::from(error.number()), offset as u64)
+        }
+    }
 }
 
 // Its listing, likewise.

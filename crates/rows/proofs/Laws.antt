@@ -1,16 +1,23 @@
--- The laws of rows that a walk over a job uses: how many a command has, and what written rows leave. Assumes nothing.
+-- How many rows a command has, and that each has eight words. Assumes nothing.
 use mathlib.Core.List.{List, [], ◌∷◌, ◌++◌, map}
-use mathlib.Core.Path.{◌≡◌, refl}
-use Prim.Native.Nat.{ℕ, ◌+◌, ◌*◌, ◌≤◌, ◌<◌}
+use mathlib.Core.Path.{◌≡◌, refl, sym}
+use mathlib.Core.Bool.{true, ◌&&◌}
+use Prim.Native.Nat.{ℕ, ◌≤◌}
 use native.Mathlib.Omega.{arith}
 use lib.IntN.{ℤ}
-use lib.ListN.{length, take, drop}
+use lib.ListN.{length}
+use Rattle.std.specs.Prelude.{Option, None, Some}
 use Rattle.claims.specs.declared.Row.{Row}
 use Rattle.format.specs.declared.Command.{Command}
-use Rattle.format.specs.declared.Command.TheVariants.{Finish as finish, Settings as settings, Joint as joint, Soil as soil, Footing as footing}
+use Rattle.format.specs.declared.Command.TheVariants.{Finish as finish, Settings as settings, Joint as joint, Column as column, Beam as beam, Hingeless as hingeless, WallBase as wall_base, Storey as storey, Soil as soil, Footing as footing}
+use Rattle.format.proofs.RangeTest.{and_first, and_second}
+use Rattle.context.specs.declared.State.{State}
+use Rattle.context.specs.Context.{given, when_given}
+use Rattle.context.specs.Running.{JointTable, joint_at, running}
+use Rattle.context.proofs.Shown.{differ}
 use Rattle.rows.specs.Rows.{row_count, words}
-use Rattle.rows.specs.Writing.{stored_all, joined}
-use Rattle.rows.proofs.Memory as memory
+use Rattle.rows.specs.Writing.{rows_from, rows_given}
+use Rattle.rows.proofs.Memory.{Eights}
 
 pub count_le : (c : Command) → row_count c ≤ 2
 unfolding row_count
@@ -21,9 +28,28 @@ count_le (soil s) = omega arith
 count_le (footing f) = omega arith
 count_le _ = omega arith
 
--- rows of eight words each
-abbrev pub Eights : List (List ℤ) → Type 0
-Eights = memory.Eights
+-- what is made of a thing that is given is as long as it is of each
+pub as_long : {A : Type 0} (o : Option A) → given o ≡ true → (f : A → List Row) (n : ℕ) → ((a : A) → length (f a) ≡ n) → length (when_given o f) ≡ n
+as_long None g f n e = absurd (differ (sym g))
+as_long (Some a) g f n e = e a
+
+-- so many rows has a command where what they are made of is given
+pub as_many : (t : State) (table : JointTable) (c : Command) → rows_given t table c ≡ true → length (rows_from t table c) ≡ row_count c
+unfolding rows_given rows_from row_count
+as_many t table (column c) g = as_long t.settings g _ 1 (λ s. refl)
+as_many t table (beam b) g = as_long t.settings g _ 1 (λ s. refl)
+as_many t table (hingeless id1 id2 m) g =
+    let set = given t.settings in
+    let first = given (joint_at table id1) in
+    let second = given (joint_at table id2) in
+    let h = and_first (set && first) second g in
+    as_long t.settings (and_first set first h) _ 1
+    (λ s. as_long (joint_at table id1) (and_second set first h) _ 1 (λ i. as_long (joint_at table id2) (and_second (set && first) second g) _ 1 (λ j. refl)))
+as_many t table (wall_base b) g = as_long (running t.wall) g _ 1 (λ w. refl)
+as_many t table (storey s) g = as_long (running t.wall) g _ 1 (λ w. refl)
+as_many t table (footing f) g =
+    as_long t.settings (and_first (given t.settings) (given t.soil) g) _ 2 (λ s. as_long t.soil (and_second (given t.settings) (given t.soil) g) _ 2 (λ k. refl))
+as_many t table _ g = refl
 
 pub words_eight : (offset byte : ℕ) (rows : List Row) → Eights (map (words offset byte) rows)
 words_eight offset byte [] = tt
@@ -32,17 +58,3 @@ words_eight offset byte (r ∷ rs) = (refl, words_eight offset byte rs)
 pub eights_both : (xs ys : List (List ℤ)) → Eights xs → Eights ys → Eights (xs ++ ys)
 eights_both [] ys e f = f
 eights_both (x ∷ xs) ys e f = (e.0, eights_both xs ys e.1 f)
-
-pub stored_all_append : (m : List ℤ) (n : ℕ) (xs ys : List (List ℤ)) → stored_all m n (xs ++ ys) ≡ stored_all (stored_all m n xs) (n + length xs) ys
-stored_all_append = memory.stored_all_append
-
-pub stored_all_empty : (n : ℕ) (rows : List (List ℤ)) → stored_all [] n rows ≡ []
-stored_all_empty = memory.stored_all_empty
-
--- with room for all rows, they stand from row n on, and the words before and after are as they were
-pub stored_all_fits : (m : List ℤ) (n : ℕ) (rows : List (List ℤ)) → Eights rows → 8 * (n + length rows) ≤ length m →
-    stored_all m n rows ≡ take (8 * n) m ++ joined rows ++ drop (8 * (n + length rows)) m
-stored_all_fits = memory.stored_all_fits
-
-pub stored_all_none : (m : List ℤ) (n : ℕ) (rows : List (List ℤ)) → length m < 8 * n + 8 → stored_all m n rows ≡ m
-stored_all_none = memory.stored_all_none

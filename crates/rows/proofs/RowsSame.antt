@@ -1,8 +1,8 @@
--- The rows of a command off the state and the joints after it are those of its context; without room they are as many. Assumes nothing.
+-- The rows of a command off the state and the joints after it are those of its context where rows are to be written; where nothing is
+-- absent, with room or without, those of its context are as many as are counted. Assumes nothing.
 use mathlib.Core.Path.{◌≡◌, refl, sym, ap, ◌∙◌}
 use mathlib.Core.Bool.{Bool, true, false, ◌||◌}
-use mathlib.Core.List.{List, [], ◌∷◌}
-use Prim.Native.Nat.{ℕ}
+use mathlib.Core.List.{[], ◌∷◌}
 use lib.ListN.{length}
 use Rattle.std.specs.Prelude.{Option, None, Some}
 use Rattle.coefficient.specs.declared.Settings.{Settings}
@@ -21,6 +21,7 @@ use Rattle.context.specs.Context.{Context, given, missing, when_given, absent}
 use Rattle.context.specs.Running.{JointTable, running, wall_kept, next_joints, next_state}
 use Rattle.context.proofs.Shown.{Shows, IdsFit, InPlace, latest_wall, settings_given_lem, differ}
 use Rattle.rows.specs.Rows.{row_count, rows_of, rows_with}
+use Rattle.rows.proofs.Laws.{as_long}
 use Rattle.rows.specs.Writing.{running_base_row, running_storey_row, rows_from}
 
 or_first : (a b : Bool) → (a || b) ≡ false → a ≡ false
@@ -30,11 +31,6 @@ or_first false b e = refl
 or_second : (a b : Bool) → (a || b) ≡ false → b ≡ false
 or_second true b e = absurd (differ e)
 or_second false b e = e
-
--- what is made of a thing that is given is as long as it is of each
-as_long : {A : Type 0} (o : Option A) → given o ≡ true → (f : A → List Row) (n : ℕ) → ((a : A) → length (f a) ≡ n) → length (when_given o f) ≡ n
-as_long None g f n e = absurd (differ (sym g))
-as_long (Some a) g f n e = e a
 
 found : {A : Type 0} (o : Option A) → missing o ≡ false → given o ≡ true
 found None e = absurd (differ e)

@@ -1,6 +1,6 @@
 -- The rows of a command in the shape that the code keeps: off the state and the joints after it; and writing them into a slice of
 -- words. proofs/RowsSame.antt ties them to the rows of a command's context.
-use Rattle.std.specs.Prelude.{◌≡◌, true, cond, List, [], ◌∷◌, ◌++◌, ℕ, ◌+◌, ◌*◌, ◌≤◌, leb, ℤ, length, take, drop, Option}
+use Rattle.std.specs.Prelude.{◌≡◌, Bool, true, ◌&&◌, cond, List, [], ◌∷◌, ◌++◌, ℕ, ◌+◌, ◌*◌, ◌/◌, leb, ℤ, length, take, drop, Option}
 use Rattle.coefficient.specs.Coefficient.{fraction}
 use Rattle.claims.specs.declared.Row.{Row}
 use Rattle.actions.specs.declared.Sign.TheVariants.{Plus, Minus}
@@ -19,7 +19,7 @@ use Rattle.format.specs.declared.Command.TheVariants.{Column as column, Beam as 
 use Rattle.format.specs.Commands.{in_range}
 use Rattle.blocks.specs.Sets.{storeys_at, all_in_range}
 use Rattle.context.specs.declared.State.{State}
-use Rattle.context.specs.Context.{when_given}
+use Rattle.context.specs.Context.{given, when_given}
 use Rattle.context.specs.Running.{JointTable, joint_at, running, SoundState, SoundJoints}
 use Rattle.rows.specs.Rows.{words}
 
@@ -41,6 +41,20 @@ rows_from t joints (footing f) =
     when_given t.settings (λ s. when_given t.soil (λ g. footing_row s f g.soil g.sensitive Plus ∷ footing_row s f g.soil g.sensitive Minus ∷ []))
 rows_from t joints (detail d) = detail_row d ∷ []
 rows_from t joints _ = []
+
+-- what these rows are made of is given: settings, the joints of a member, the running values of the wall, the soil of a footing
+unfoldable pub rows_given : State → JointTable → Command → Bool
+rows_given t joints (column c) = given t.settings
+rows_given t joints (beam b) = given t.settings
+rows_given t joints (hingeless id1 id2 m) = given t.settings && given (joint_at joints id1) && given (joint_at joints id2)
+rows_given t joints (wall_base b) = given (running t.wall)
+rows_given t joints (storey s) = given (running t.wall)
+rows_given t joints (footing f) = given t.settings && given t.soil
+rows_given t joints _ = true
+
+-- the storeys of sets that stand one after the other, of their bytes alone
+abbrev pub storeys_in : List ℕ → List Storey
+storeys_in sets = storeys_at (length sets / 24) sets 0
 
 -- the rows of a block's sets, the first at an offset, off the running values of the wall: each row has its set's offset and 7
 unfoldable pub set_rows : Wall → ℕ → List Storey → List (List ℤ)
@@ -74,7 +88,6 @@ pub record EmitAsks (t : State) (table : JointTable) (c : Command) : Type 0 wher
   pub joints : SoundJoints table
   pub ranged : in_range c ≡ true
 
--- for the rows of a block: so many sets that stand whole in the job, each in range
-pub record SetsAsk (job : List ℕ) (at count : ℕ) : Type 0 where
-  pub whole : at + 24 * count ≤ length job
-  pub ranged : all_in_range (storeys_at count job at) ≡ true
+-- for the rows of a block: each set in range
+abbrev pub SetsAsk : List ℕ → Type 0
+SetsAsk sets = all_in_range (storeys_in sets) ≡ true

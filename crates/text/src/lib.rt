@@ -34,7 +34,7 @@ fn row_line(row: &[i64; 8]) -> ArrayString<168>
     line
 }
 
-// A label, and the number after it.
+// A label, and the number after it. Not one function with `push_word`: there the text stands behind, and the number is an i64.
 fn push_labelled<const N: usize>(line: &mut ArrayString<N>, label: &str, value: u64)
     requires { array_string_len line.old + (length label.now + 20) ≤ N }
     ensures text { line.new.bytes ≡ line.old.bytes ++ (label.now ++ decimal value) }
@@ -77,7 +77,7 @@ fn put_text(out: &mut [u8], at: usize, text: &str) -> usize
     end
 }
 
-// The lines of the first rows. Rows and their number come as the two values that C gives.
+// The lines of the first rows, of a slice that may be longer: so their number is given too.
 fn put_rows(out: &mut [u8], rows: &[i64], count: usize) -> usize
     requires words { 8 * count ≤ length rows.now }
     requires room { 168 * count ≤ length out.old }
@@ -91,7 +91,8 @@ fn put_rows(out: &mut [u8], rows: &[i64], count: usize) -> usize
     at
 }
 
-// The listing of an accepted job, from the start of the slice: the rows of these totals, then the totals. Answers its length.
+// The listing of an accepted job, from the start of the slice: the rows of these totals, then the totals. Answers its length. A caller with
+// a position hands in the slice from there on.
 pub fn put_listing(out: &mut [u8], rows: &[i64], totals: Totals) -> usize
     requires words { 8 * totals.rows ≤ length rows.now }
     requires room { 168 * totals.rows + 82 ≤ length out.old }
@@ -101,7 +102,7 @@ pub fn put_listing(out: &mut [u8], rows: &[i64], totals: Totals) -> usize
     put_text(out, at, totals_line(totals).as_str())
 }
 
-// The line of a refusal, from the start of the slice. Answers its length.
+// The line of a refusal, likewise from the start of the slice. Answers its length. The refusal is a number, as the line prints it.
 pub fn put_refused(out: &mut [u8], number: u64, offset: u64) -> usize
     requires { 50 ≤ length out.old }
     ensures { WritesAtMost 50 out.old 0 (refused_line number offset) out.new result }

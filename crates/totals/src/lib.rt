@@ -18,11 +18,11 @@ fn checks_failed(verdict: i64) -> u64
     requires { good_verdict verdict ≡ true }
     ensures { result ≡ checks_of verdict }
 {
-    let ones = u8::count_ones(verdict as u8);
-    ones as u64
+    u64::from((verdict as u8).count_ones())
 }
 
-// The totals of the first n rows, whose verdicts are in their range. Rows and their number come as the two values that C gives.
+// The totals of the first n rows, whose verdicts are in their range. The slice may be longer: so their number is
+// given too.
 pub fn count(rows: &[i64], n: usize) -> Totals
     requires room { 8 * n ≤ length rows.now }
     requires verdicts { GoodRows rows.now n }

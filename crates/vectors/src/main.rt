@@ -15,7 +15,7 @@ use std::{fs, io, str};
 fn agrees(job: &[u8], text: &[u8]) -> bool
     ensures { Agreement job.now text.now result }
 {
-    let mut out = [0u8; 172114];
+    let mut out = [0u8; report::MOST_TEXT];
     let n = report::listing_text(job, &mut out);
     &out[..n] == text
 }
@@ -36,8 +36,8 @@ fn read_file(rt: &impl Files, name: &str, ending: &str, buffer: &mut [u8]) -> io
 // Whether a vector agrees.
 fn vector_agrees(rt: &impl Files, name: &[u8]) -> io::Result<bool> {
     let name = str::from_utf8(name).map_err(|_| io::Error::from(io::ErrorKind::InvalidFilename))?;
-    let mut job = [0u8; 65537];
-    let mut text = [0u8; 172115];
+    let mut job = [0u8; report::MOST_BYTES + 1];
+    let mut text = [0u8; report::MOST_TEXT + 1];
     let job_end = read_file(rt, name, ".job", &mut job)?;
     let text_end = read_file(rt, name, ".out", &mut text)?;
     Ok(agrees(&job[..job_end], &text[..text_end]))
@@ -69,6 +69,7 @@ fn run_vectors(rt: &(impl Files + Env + Print), count: usize) -> usize {
         .count()
 }
 
+// Whether an argument is given. In `console` too: a crate that both programs share would be longer than this line.
 fn has_argument(rt: &impl Env, argument: usize) -> bool {
     !matches!(rt.arg(argument, &mut []), Err(FillError::NotPresent))
 }

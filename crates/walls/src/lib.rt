@@ -3,7 +3,6 @@
 #![tactic(auto)]
 
 ghost use Rattle.std.specs.Prelude.{◌≡◌, ◌*◌, ◌^◌, ◌≤◌, ◌<◌};
-ghost use Rattle.exact.specs.Quotient.{up};
 ghost use Rattle.coefficient.specs.Coefficient.{fraction, ProductFits};
 ghost use Rattle.cubes.specs.Root.{least_root};
 ghost use Rattle.walls.specs.Base.{design_moment, base_row_from, WallBaseRange};
@@ -12,7 +11,6 @@ ghost use Rattle.walls.specs.Running.{wall_of, WallRange};
 
 use claims::Row;
 use coefficient::Quotient;
-use cubes::Cubes;
 
 // Operands of a wall base: length, thickness, MR, ME, VE, VR.
 #[derive(Clone, Copy)]
@@ -63,22 +61,14 @@ pub fn wall_of(behaviour: u32, base: WallBase) -> Wall
     }
 }
 
-// k·x/3000, up. A function of its own beside `coefficient::product_up`: x has 64 bits here.
+// Larger of a·x up and k·y/3000 up: a design shear of VE and W, and a design moment of ME and MR before it is kept to MR.
 #[tactic(auto, using(exact::proofs::Rounding::ceil_is))]
-fn third_up(k: u64, x: u64) -> u64
-    requires { k * x < 2 ^ 64 }
-    ensures { result ≡ up (k * x) 3000 }
+fn larger_demand(a: Quotient, k: u64, x: u32, y: u64) -> u64
+    requires product { ProductFits a x }
+    requires third { k * y < 2 ^ 64 }
+    ensures { result ≡ design_shear (fraction a) k x y }
 {
-    (k * x).div_ceil(3000)
-}
-
-// Larger of a·VE up and k·W/3000 up.
-fn design_shear(a: Quotient, k: u64, shear: u32, base: u64) -> u64
-    requires product { ProductFits a shear }
-    requires third { k * base < 2 ^ 64 }
-    ensures { result ≡ design_shear (fraction a) k shear base }
-{
-    coefficient::product_up(a, shear).max(third_up(k, base))
+    coefficient::product_up(a, x).max((k * y).div_ceil(3000))
 }
 
 // Larger of a·ME up and k·MR/3000 up, at most MR.
@@ -87,7 +77,7 @@ fn design_moment(a: Quotient, k: u64, moment: u32, resistance: u64) -> u64
     requires third { k * resistance < 2 ^ 64 }
     ensures { result ≡ design_moment (fraction a) k moment resistance }
 {
-    let uncapped = coefficient::product_up(a, moment).max(third_up(k, resistance));
+    let uncapped = larger_demand(a, k, moment, resistance);
     uncapped.min(resistance)
 }
 
@@ -118,18 +108,18 @@ pub fn storey_row_at(wall: Wall, storey: Storey, k: u32) -> Row
     let root = u64::from(k);
     let strength = u64::from(storey.strength);
     let resistance = u64::from(storey.resistance);
-    let v = design_shear(a, root, storey.shear, wall.shear);
+    let v = larger_demand(a, root, storey.shear, wall.shear);
     let m = design_moment(a, root, storey.moment, u64::from(wall.resistance));
     let verdict = claims::verdict_of(1, strength < v, 2, resistance < m);
     claims::packed(v, strength, m, resistance, root, verdict)
 }
 
 // The row of a storey of the wall with these running values.
-pub fn storey_row(wall: Wall, storey: Storey, cubes: Cubes) -> Row
+pub fn storey_row(wall: Wall, storey: Storey) -> Row
     requires wall { WallRange wall }
     requires storey { StoreyRange storey }
     ensures { result ≡ storey_row_from (fraction wall.coefficient) wall.shear wall.resistance storey }
 {
-    let k = cubes.least_root(storey.inertia, storey.base_inertia);
+    let k = cubes::least_root(storey.inertia, storey.base_inertia);
     storey_row_at(wall, storey, k)
 }

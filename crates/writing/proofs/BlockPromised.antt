@@ -6,11 +6,11 @@ use mathlib.Core.Path.{◌≡◌, refl, sym, ap, ◌∙◌}
 use Prim.Native.Nat.{ℕ, ◌+◌, ◌*◌, ◌%◌, ◌≤◌, ◌<◌}
 use native.Mathlib.Nat.{div-one, mod-eq_of_lt}
 use native.Mathlib.Omega.{arith}
-use lib.Dec.{leb, lit<}
-use lib.ListN.{length}
+use lib.Dec.{leb}
+use lib.ListN.{length, set}
 use borrow.Author.Tests.{le-leb, lt-leb, leb-true, leb-false}
 use Rattle.slices.specs.Written.{Put}
-use Rattle.slices.proofs.Writing.{behind}
+use Rattle.slices.proofs.Writing.{written_byte, behind}
 use Rattle.blocks.specs.Sets.{count_in_range, all_in_range}
 use Rattle.blocks.specs.FileCommands.{file_command_at}
 use Rattle.blocks.proofs.Sets.{count_range}
@@ -81,11 +81,11 @@ module _ (count : ℕ) (words before : List ℕ) where
       short l = enough room (command.short (block_of count words) before (sets_range h) m (omega (arith, width_is)))
 
       -- written
-      pub done : {first second after : List ℕ} → 2 + 24 * count ≤ length before → Put before 0 (big_endian 1 11) first → Put first 1 (big_endian 1 count) second → Put second 2 (set_bytes (storeys_of_words count words 0)) after → PromisesBlock (Ok (2 + 24 * count)) after
-      done {first} {second} {after} l p q s =
+      pub done : {second after : List ℕ} → 2 + 24 * count ≤ length before → Put (set before 0 11) 1 (big_endian 1 count) second → Put second 2 (set_bytes (storeys_of_words count words 0)) after → PromisesBlock (Ok (2 + 24 * count)) after
+      done {second} {after} l q s =
           let sets = storeys_of_words count words 0 in
           let small : count < 256 = omega (arith, (count_range count good).1) in
-          let head : Put before 0 (11 ∷ []) first = rw (one_byte 11 (lit< tt)) at p in
-          let number : Put first 1 (length sets ∷ []) second = rw (given_length count words 0, ← one_byte count small) q in
+          let head : Put before 0 (11 ∷ []) (set before 0 11) = record { bytes = written_byte before 0 11 (omega arith) } in
+          let number : Put (set before 0 11) 1 (length sets ∷ []) second = rw (given_length count words 0, ← one_byte count small) q in
           let whole : Put before 0 (file_bytes_of (block_of count words)) after = behind (behind head number refl (omega arith)) s refl (omega arith) in
           rw (← width_is) (enough room (command.done (block_of count words) before (sets_range h) m tt (omega (arith, width_is)) whole))

@@ -12,6 +12,7 @@ use lib.Seq.{drop-drop, drop-cons, get_or-take, get_or-drop, length-take-le, tak
 use Rattle.std.proofs.lemmas.List.{drop_all, take_more}
 use Rattle.std.specs.Simd.{first_chunks}
 use Rattle.walls.specs.declared.Storey.{Storey}
+use borrow.Rule.Slice.PartMut.{put_mid}
 use Rattle.slices.specs.Written.{Put}
 use Rattle.slices.proofs.Writing.{written_none, behind, put_length}
 use Rattle.format.specs.declared.Command.TheVariants.{Storey as storey}
@@ -21,6 +22,7 @@ use Rattle.blocks.proofs.Sets.{first_in_range, first_at_fault}
 use Rattle.writing.specs.Bytes.{set_bytes}
 use Rattle.writing.specs.BlockGiven.{storey_of_words, storeys_of_words}
 use Rattle.writing.proofs.BlockWords.{storeys_kept}
+use Rattle.writing.proofs.Filling.{put_here}
 use Rattle.writing.proofs.SetBytes.{one_set, set_width, sets_width, sets_more}
 
 -- ---- the storeys of words
@@ -102,13 +104,15 @@ unfolding set_bytes
 put_begins before sets = record { kept = refl; put = record { bytes = sym (written_none before 2) } }
 
 module _ (before : List ℕ) (sets : List (List ℕ)) (bytes : List ℕ) (set : ℕ) (s : Putting before sets bytes set) where
-  pub puts_on : {after : List ℕ} → set < length sets → 2 + 24 * length sets ≤ length before → Put bytes (2 + 24 * set) (one_set (storey_of_words (get_or sets set []) 0)) after → Putting before sets after (set + 1)
-  puts_on {after} l room p =
+  pub puts_on : {part : List ℕ} {n : ℕ} → set < length sets → 2 + 24 * length sets ≤ length before → part ≡ one_set (storey_of_words (get_or sets set []) 0) → n ≡ 24 → Putting before sets (put_mid (2 + 24 * set) n bytes part) (set + 1)
+  puts_on {part} {n} l room q h =
       let here = storey_of_words (get_or sets set []) 0 in
+      let after = put_mid (2 + 24 * set) n bytes part in
+      let p : Put bytes (2 + 24 * set) (one_set here) after = put_here q (omega (arith, h, set_width here)) in
       let so_far = storeys (take set sets) in
       let more : storeys (take (set + 1) sets) ≡ so_far ++ here ∷ [] = ap storeys (take_more sets set [] l) ∙ map-append (λ words. storey_of_words words 0) (take set sets) (get_or sets set [] ∷ []) in
-      let n : length so_far ≡ set = length-map (take set sets) (λ words. storey_of_words words 0) ∙ length-take-le set sets (omega arith) in
-      let place : 2 + length (set_bytes so_far) ≡ 2 + 24 * set = omega (arith, sets_width so_far, n) in
+      let count : length so_far ≡ set = length-map (take set sets) (λ words. storey_of_words words 0) ∙ length-take-le set sets (omega arith) in
+      let place : 2 + length (set_bytes so_far) ≡ 2 + 24 * set = omega (arith, sets_width so_far, count) in
       let fits : 2 + 24 * set + length (one_set here) ≤ length bytes = omega (arith, s.kept, set_width here) in
       let all : set_bytes so_far ++ one_set here ≡ set_bytes (storeys (take (set + 1) sets)) = sym (ap set_bytes more ∙ sets_more so_far here) in
       record {

@@ -1,4 +1,5 @@
 -- Laws of writing a command: what stands in the slice, what is read back, what is written again. Assumes nothing.
+mod Filling
 pub mod SetBytes
 pub mod Answered
 pub mod OperandBytes

@@ -2,28 +2,27 @@
 -- into the slice. The test of the range is a Bool that the code has. Assumes nothing.
 use mathlib.Core.Bool.{Bool, true, false}
 use mathlib.Core.List.{List, [], ◌∷◌, ◌++◌}
-use mathlib.Core.Path.{◌≡◌, refl, sym, ap, ◌∙◌}
-use Prim.Native.Nat.{ℕ, ◌+◌, ◌≤◌, ◌<◌}
+use mathlib.Core.Path.{◌≡◌, refl, sym, ap, ◌∙◌, subst}
+use Prim.Native.Nat.{ℕ, suc, ◌+◌, ◌-◌, ◌≤◌, ◌<◌}
 use native.Mathlib.Nat.{zero-add}
 use native.Mathlib.Omega.{arith}
 use lib.ListN.{length, drop, set}
 use Rattle.slices.specs.Written.{written, Put}
+use borrow.Rule.Slice.PartMut.{put_mid}
 use Rattle.slices.proofs.Writing.{written_byte, behind}
 use Rattle.layout.specs.Layouts.{forms_of, operands_width}
 use Rattle.format.specs.declared.Command.{Command}
 use Rattle.format.specs.Commands.{byte_of, operands_of, in_range}
 use Rattle.format.specs.Types.{OfTypes}
-use Rattle.format.specs.Reading.{command_at}
 use Rattle.blocks.specs.FileCommands.{FileCommand, one}
-use Rattle.std.specs.Prelude.{Result, Ok, Err}
-use Rattle.writing.specs.declared.WriteError.{WriteError}
+use Rattle.std.specs.Prelude.{Ok, Err}
 use Rattle.writing.specs.declared.WriteError.TheVariants.{OutOfRange, TooShort}
 use Rattle.writing.specs.Bytes.{operand_bytes, bytes_of, file_bytes_of}
-use Rattle.writing.specs.Answers.{answer_of, file_in_range, write_of, bytes_after, WritesFileCommand, WritesCommand}
+use Rattle.writing.specs.Answers.{file_in_range, WritesFileCommand, WritesCommand}
 use Rattle.writing.specs.Files.{OfFileTypes}
 use Rattle.writing.proofs.Answered.{bytes_width, numbered, answer_5, slice_5, answer_11, slice_11, answer_written, slice_written}
-use Rattle.blocks.proofs.FileCommands.{one_read}
 use Rattle.writing.proofs.BlockReadBack.{read_back}
+use Rattle.writing.proofs.Filling.{put_here}
 
 module _ (c : FileCommand) (before : List ℕ) where
   pub outside : {t : Bool} → t ≡ file_in_range c → t ≡ false → WritesFileCommand c before (Err OutOfRange) before
@@ -63,14 +62,12 @@ module _ (c : Command) (byte : ℕ) (e : byte_of c ≡ byte) (before : List ℕ)
     pub command_short : length before < n → WritesCommand c before (Err TooShort) before
     command_short h = short (one c) before r is (omega (arith, width_is))
 
-    pub command_done : {after : List ℕ} → OfTypes c → n ≤ length before → Put (set before 0 byte) 1 (operand_bytes (forms_of byte) (operands_of c)) after → WritesCommand c before (Ok n) after
+    pub command_done : {b : ℕ} {part : List ℕ} → OfTypes c → n ≤ length before → b ≡ byte → part ≡ operand_bytes (forms_of byte) (operands_of c) → WritesCommand c before (Ok n) (put_mid 1 (n - 1) (set before 0 b) part)
     unfolding bytes_of
-    command_done {after} types room put =
-        let head : Put before 0 (byte ∷ []) (set before 0 byte) = record { bytes = written_byte before 0 byte (omega (arith, w)) } in
-        let whole : Put before 0 (byte ∷ operand_bytes (forms_of byte) (operands_of c)) after = behind head put refl (omega arith) in
+    command_done {b} {part} types room first put =
+        let after = put_mid 1 (n - 1) (set before 0 b) part in
+        let long : suc (length (operand_bytes (forms_of byte) (operands_of c))) ≡ n = rw e at width_is in
+        let head : Put before 0 (byte ∷ []) (set before 0 b) = rw first (record { bytes = written_byte before 0 byte (omega (arith, w)) }) in
+        let whole : Put before 0 (byte ∷ operand_bytes (forms_of byte) (operands_of c)) after = behind head (put_here put (omega (arith, long))) refl (omega arith) in
         let all : Put before 0 (bytes_of c) after = rw e whole in
-        rw (← width_is) (done (one c) before r is types (omega (arith, width_is)) all)
-
--- of a command that is this one, fact by fact
-pub of_command : {c d : Command} {before : List ℕ} {r : Result ℕ WriteError} {after : List ℕ} → d ≡ c → WritesCommand c before r after → (answer_of r ≡ write_of d (length before)) × ((after ≡ bytes_after d before) × ((answer_of r).number ≡ 0 → command_at after 0 ≡ d))
-of_command {c} {d} {before} {r} {after} e p = rw e (p.answers, (p.bytes, λ z. one_read after 0 c (p.back z)))
+        subst (λ (k : ℕ). WritesCommand c before (Ok k) after) width_is (done (one c) before r is types (omega (arith, width_is)) all)

@@ -1,8 +1,9 @@
 // The calls `write` and `write_block`: one command's values, or a block of storeys, written as bytes into a lent slice. Neither has a
 // `requires`. 02, No. 2 and No. 7.
-#![tactic(auto)]
+// The check opens at each goal what says how wide a command's operands are.
+#![tactic(auto, unfolding(layout::specs::Layouts::operands_width, layout::specs::Layouts::width_of_all, layout::specs::Layouts::forms_of, layout::specs::Layouts::forms_in, layout::specs::Forms::width))]
 
-ghost use Rattle.std.specs.Prelude.{◌≡◌, ◌+◌, ◌*◌, ◌≤◌, length, map, refl};
+ghost use Rattle.std.specs.Prelude.{◌≡◌, ◌+◌, ◌*◌, ◌≤◌, length, map, refl, Err};
 ghost use Rattle.slices.specs.Written.{Put};
 ghost use Rattle.layout.specs.declared.Kind.{Kind};
 ghost use Rattle.layout.specs.declared.Kind.TheVariants as kind;
@@ -33,6 +34,18 @@ pub enum WriteError {
     TooShort,
 }
 
+impl WriteError {
+    // Its number in 02.
+    pub fn number(self) -> u32
+        ensures { result ≡ (answer_of (Err self)).number }
+    {
+        match self {
+            WriteError::OutOfRange => 5,
+            WriteError::TooShort => 11,
+        }
+    }
+}
+
 // The end, which has no operands.
 #[derive(Clone, Copy)]
 pub struct End;
@@ -44,22 +57,26 @@ impl Operands for End {
 
     const KIND: Kind = Kind::Finish;
 
+    #[tactic(auto, unfolding(format::specs::Commands::command_of))]
     fn read(_operands: &[u8]) -> End {
         End
     }
 
+    #[tactic(auto, using(crate::proofs::Answered::end_in_range))]
     fn in_range(self) -> bool {
         true
     }
 }
 
-// ---- the operands of each command, each at its offset
+// ---- the operands of each command, each in its place
+
+// Each kind puts its operands at offsets written out, as it reads them (`format`), and not in a loop over its forms.
 
 pub trait Puts: Operands {
-    // The operands put into the slice from a position on.
-    fn put(self, bytes: &mut [u8], at: usize)
-        requires { at + operands_width (byte_of_kind Self.KIND) ≤ length bytes.old }
-        ensures put { Put bytes.old at (operand_bytes (forms_of (byte_of_kind Self.KIND)) (operands_of (Self.command self))) bytes.new }
+    // The operands put into the slice that is theirs.
+    fn put(self, bytes: &mut [u8])
+        requires { length bytes.old ≡ operands_width (byte_of_kind Self.KIND) }
+        ensures put { bytes.new ≡ operand_bytes (forms_of (byte_of_kind Self.KIND)) (operands_of (Self.command self)) }
         ensures types { OfTypes (Self.command self) };
 
     // The command is of this kind.
@@ -67,152 +84,142 @@ pub trait Puts: Operands {
 }
 
 impl Puts for End {
-    fn put(self, _bytes: &mut [u8], _at: usize) {}
+    fn put(self, _bytes: &mut [u8]) {}
 
     ghost same_byte = { λ x. refl };
 }
 
 impl Puts for Settings {
-    #[tactic(auto, unfolding(layout::specs::Layouts::operands_width, layout::specs::Layouts::width_of_all, layout::specs::Layouts::forms_of, layout::specs::Layouts::forms_in, layout::specs::Forms::width))]
-    fn put(self, bytes: &mut [u8], at: usize) {
-        numbers::put::<2>(bytes, at, self.behaviour);
-        numbers::put::<2>(bytes, at + 2, self.joints);
-        numbers::put::<2>(bytes, at + 4, self.foundations);
+    fn put(self, bytes: &mut [u8]) {
+        numbers::put::<2>(&mut bytes[0..2], self.behaviour);
+        numbers::put::<2>(&mut bytes[2..4], self.joints);
+        numbers::put::<2>(&mut bytes[4..6], self.foundations);
     }
 
     ghost same_byte = { λ x. refl };
 }
 
 impl Puts for (u8, Joint) {
-    #[tactic(auto, unfolding(layout::specs::Layouts::operands_width, layout::specs::Layouts::width_of_all, layout::specs::Layouts::forms_of, layout::specs::Layouts::forms_in, layout::specs::Forms::width))]
-    fn put(self, bytes: &mut [u8], at: usize) {
+    fn put(self, bytes: &mut [u8]) {
         let (id, joint) = self;
-        numbers::put::<1>(bytes, at, id as u32);
-        numbers::put::<4>(bytes, at + 1, joint.beams);
-        numbers::put::<4>(bytes, at + 5, joint.columns);
-        numbers::put::<4>(bytes, at + 9, joint.seismic);
+        numbers::put::<1>(&mut bytes[0..1], u32::from(id));
+        numbers::put::<4>(&mut bytes[1..5], joint.beams);
+        numbers::put::<4>(&mut bytes[5..9], joint.columns);
+        numbers::put::<4>(&mut bytes[9..13], joint.seismic);
     }
 
     ghost same_byte = { λ x. refl };
 }
 
 impl Puts for Column {
-    #[tactic(auto, unfolding(layout::specs::Layouts::operands_width, layout::specs::Layouts::width_of_all, layout::specs::Layouts::forms_of, layout::specs::Layouts::forms_in, layout::specs::Forms::width))]
-    fn put(self, bytes: &mut [u8], at: usize) {
-        numbers::put::<4>(bytes, at, self.length);
-        numbers::put::<4>(bytes, at + 4, self.plus1);
-        numbers::put::<4>(bytes, at + 8, self.plus2);
-        numbers::put::<4>(bytes, at + 12, self.minus1);
-        numbers::put::<4>(bytes, at + 16, self.minus2);
-        numbers::put::<4>(bytes, at + 20, self.shear);
-        numbers::put::<4>(bytes, at + 24, self.strength);
+    fn put(self, bytes: &mut [u8]) {
+        numbers::put::<4>(&mut bytes[0..4], self.length);
+        numbers::put::<4>(&mut bytes[4..8], self.plus1);
+        numbers::put::<4>(&mut bytes[8..12], self.plus2);
+        numbers::put::<4>(&mut bytes[12..16], self.minus1);
+        numbers::put::<4>(&mut bytes[16..20], self.minus2);
+        numbers::put::<4>(&mut bytes[20..24], self.shear);
+        numbers::put::<4>(&mut bytes[24..28], self.strength);
     }
 
     ghost same_byte = { λ x. refl };
 }
 
 impl Puts for Beam {
-    #[tactic(auto, unfolding(layout::specs::Layouts::operands_width, layout::specs::Layouts::width_of_all, layout::specs::Layouts::forms_of, layout::specs::Layouts::forms_in, layout::specs::Forms::width))]
-    fn put(self, bytes: &mut [u8], at: usize) {
-        numbers::put::<4>(bytes, at, self.length);
-        numbers::put::<4>(bytes, at + 4, self.plus1);
-        numbers::put::<4>(bytes, at + 8, self.plus2);
-        numbers::put::<4>(bytes, at + 12, self.minus1);
-        numbers::put::<4>(bytes, at + 16, self.minus2);
-        numbers::put_signed(bytes, at + 20, self.nonseismic);
-        numbers::put::<4>(bytes, at + 24, self.shear);
-        numbers::put::<4>(bytes, at + 28, self.strength);
+    fn put(self, bytes: &mut [u8]) {
+        numbers::put::<4>(&mut bytes[0..4], self.length);
+        numbers::put::<4>(&mut bytes[4..8], self.plus1);
+        numbers::put::<4>(&mut bytes[8..12], self.plus2);
+        numbers::put::<4>(&mut bytes[12..16], self.minus1);
+        numbers::put::<4>(&mut bytes[16..20], self.minus2);
+        numbers::put_signed(&mut bytes[20..24], self.nonseismic);
+        numbers::put::<4>(&mut bytes[24..28], self.shear);
+        numbers::put::<4>(&mut bytes[28..32], self.strength);
     }
 
     ghost same_byte = { λ x. refl };
 }
 
 impl Puts for (u8, u8, Hingeless) {
-    #[tactic(auto, unfolding(layout::specs::Layouts::operands_width, layout::specs::Layouts::width_of_all, layout::specs::Layouts::forms_of, layout::specs::Layouts::forms_in, layout::specs::Forms::width))]
-    fn put(self, bytes: &mut [u8], at: usize) {
+    fn put(self, bytes: &mut [u8]) {
         let (id1, id2, member) = self;
-        numbers::put::<4>(bytes, at, member.length);
-        numbers::put::<1>(bytes, at + 4, id1 as u32);
-        numbers::put::<1>(bytes, at + 5, id2 as u32);
-        numbers::put::<4>(bytes, at + 6, member.moment1);
-        numbers::put::<4>(bytes, at + 10, member.moment2);
-        numbers::put_signed(bytes, at + 14, member.nonseismic);
-        numbers::put::<4>(bytes, at + 18, member.strength);
+        numbers::put::<4>(&mut bytes[0..4], member.length);
+        numbers::put::<1>(&mut bytes[4..5], u32::from(id1));
+        numbers::put::<1>(&mut bytes[5..6], u32::from(id2));
+        numbers::put::<4>(&mut bytes[6..10], member.moment1);
+        numbers::put::<4>(&mut bytes[10..14], member.moment2);
+        numbers::put_signed(&mut bytes[14..18], member.nonseismic);
+        numbers::put::<4>(&mut bytes[18..22], member.strength);
     }
 
     ghost same_byte = { λ x. refl };
 }
 
 impl Puts for WallBase {
-    #[tactic(auto, unfolding(layout::specs::Layouts::operands_width, layout::specs::Layouts::width_of_all, layout::specs::Layouts::forms_of, layout::specs::Layouts::forms_in, layout::specs::Forms::width))]
-    fn put(self, bytes: &mut [u8], at: usize) {
-        numbers::put::<4>(bytes, at, self.length);
-        numbers::put::<4>(bytes, at + 4, self.thickness);
-        numbers::put::<4>(bytes, at + 8, self.resistance);
-        numbers::put::<4>(bytes, at + 12, self.moment);
-        numbers::put::<4>(bytes, at + 16, self.shear);
-        numbers::put::<4>(bytes, at + 20, self.strength);
+    fn put(self, bytes: &mut [u8]) {
+        numbers::put::<4>(&mut bytes[0..4], self.length);
+        numbers::put::<4>(&mut bytes[4..8], self.thickness);
+        numbers::put::<4>(&mut bytes[8..12], self.resistance);
+        numbers::put::<4>(&mut bytes[12..16], self.moment);
+        numbers::put::<4>(&mut bytes[16..20], self.shear);
+        numbers::put::<4>(&mut bytes[20..24], self.strength);
     }
 
     ghost same_byte = { λ x. refl };
 }
 
 impl Puts for Storey {
-    #[tactic(auto, unfolding(layout::specs::Layouts::operands_width, layout::specs::Layouts::width_of_all, layout::specs::Layouts::forms_of, layout::specs::Layouts::forms_in, layout::specs::Forms::width))]
-    fn put(self, bytes: &mut [u8], at: usize) {
-        numbers::put::<4>(bytes, at, self.moment);
-        numbers::put::<4>(bytes, at + 4, self.shear);
-        numbers::put::<4>(bytes, at + 8, self.inertia);
-        numbers::put::<4>(bytes, at + 12, self.base_inertia);
-        numbers::put::<4>(bytes, at + 16, self.strength);
-        numbers::put::<4>(bytes, at + 20, self.resistance);
+    fn put(self, bytes: &mut [u8]) {
+        numbers::put::<4>(&mut bytes[0..4], self.moment);
+        numbers::put::<4>(&mut bytes[4..8], self.shear);
+        numbers::put::<4>(&mut bytes[8..12], self.inertia);
+        numbers::put::<4>(&mut bytes[12..16], self.base_inertia);
+        numbers::put::<4>(&mut bytes[16..20], self.strength);
+        numbers::put::<4>(&mut bytes[20..24], self.resistance);
     }
 
     ghost same_byte = { λ x. refl };
 }
 
 impl Puts for SoilGiven {
-    #[tactic(auto, unfolding(layout::specs::Layouts::operands_width, layout::specs::Layouts::width_of_all, layout::specs::Layouts::forms_of, layout::specs::Layouts::forms_in, layout::specs::Forms::width))]
-    fn put(self, bytes: &mut [u8], at: usize) {
-        numbers::put::<1>(bytes, at, self.kind);
-        numbers::put::<4>(bytes, at + 1, self.value);
-        numbers::put::<1>(bytes, at + 5, self.sensitive);
+    fn put(self, bytes: &mut [u8]) {
+        numbers::put::<1>(&mut bytes[0..1], self.kind);
+        numbers::put::<4>(&mut bytes[1..5], self.value);
+        numbers::put::<1>(&mut bytes[5..6], self.sensitive);
     }
 
     ghost same_byte = { λ x. refl };
 }
 
 impl Puts for Footing {
-    #[tactic(auto, unfolding(layout::specs::Layouts::operands_width, layout::specs::Layouts::width_of_all, layout::specs::Layouts::forms_of, layout::specs::Layouts::forms_in, layout::specs::Forms::width))]
-    fn put(self, bytes: &mut [u8], at: usize) {
-        numbers::put::<4>(bytes, at, self.breadth);
-        numbers::put::<4>(bytes, at + 4, self.length);
-        numbers::put::<4>(bytes, at + 8, self.resistance);
-        numbers::put::<4>(bytes, at + 12, self.moment);
-        numbers::put_signed(bytes, at + 16, self.nv);
-        numbers::put_signed(bytes, at + 20, self.ne);
-        numbers::put_signed(bytes, at + 24, self.xv);
-        numbers::put_signed(bytes, at + 28, self.xe);
-        numbers::put_signed(bytes, at + 32, self.yv);
-        numbers::put_signed(bytes, at + 36, self.ye);
-        numbers::put_signed(bytes, at + 40, self.hv);
-        numbers::put_signed(bytes, at + 44, self.he);
-        numbers::put::<4>(bytes, at + 48, self.uplift);
-        numbers::put::<4>(bytes, at + 52, self.passive);
-        numbers::put::<1>(bytes, at + 56, self.flags);
+    fn put(self, bytes: &mut [u8]) {
+        numbers::put::<4>(&mut bytes[0..4], self.breadth);
+        numbers::put::<4>(&mut bytes[4..8], self.length);
+        numbers::put::<4>(&mut bytes[8..12], self.resistance);
+        numbers::put::<4>(&mut bytes[12..16], self.moment);
+        numbers::put_signed(&mut bytes[16..20], self.nv);
+        numbers::put_signed(&mut bytes[20..24], self.ne);
+        numbers::put_signed(&mut bytes[24..28], self.xv);
+        numbers::put_signed(&mut bytes[28..32], self.xe);
+        numbers::put_signed(&mut bytes[32..36], self.yv);
+        numbers::put_signed(&mut bytes[36..40], self.ye);
+        numbers::put_signed(&mut bytes[40..44], self.hv);
+        numbers::put_signed(&mut bytes[44..48], self.he);
+        numbers::put::<4>(&mut bytes[48..52], self.uplift);
+        numbers::put::<4>(&mut bytes[52..56], self.passive);
+        numbers::put::<1>(&mut bytes[56..57], self.flags);
     }
 
     ghost same_byte = { λ x. refl };
 }
 
 impl Puts for Detail {
-    #[tactic(auto, unfolding(layout::specs::Layouts::operands_width, layout::specs::Layouts::width_of_all, layout::specs::Layouts::forms_of, layout::specs::Layouts::forms_in, layout::specs::Forms::width))]
-    fn put(self, bytes: &mut [u8], at: usize) {
-        numbers::put::<1>(bytes, at, self.place);
-        numbers::put::<2>(bytes, at + 1, self.ultimate);
-        numbers::put::<2>(bytes, at + 3, self.yielded);
-        numbers::put::<2>(bytes, at + 5, self.ductility);
-        numbers::put::<1>(bytes, at + 7, self.lap);
+    fn put(self, bytes: &mut [u8]) {
+        numbers::put::<1>(&mut bytes[0..1], self.place);
+        numbers::put::<2>(&mut bytes[1..3], self.ultimate);
+        numbers::put::<2>(&mut bytes[3..5], self.yielded);
+        numbers::put::<2>(&mut bytes[5..7], self.ductility);
+        numbers::put::<1>(&mut bytes[7..8], self.lap);
     }
 
     ghost same_byte = { λ x. refl };
@@ -231,12 +238,13 @@ pub fn write_values<T: Puts>(values: T, bytes: &mut [u8]) -> Result<usize, Write
     if bytes.len() < width {
         return Err(WriteError::TooShort);
     }
-    bytes[0] = T::KIND.byte();
-    values.put(bytes, 1);
+    bytes[0] = u8::from(T::KIND);
+    values.put(&mut bytes[1..width]);
     Ok(width)
 }
 
 // The bytes of a command, written from the slice's first byte on.
+#[tactic(auto, using(blocks::proofs::FileCommands::one_read))]
 pub fn write(command: Command, bytes: &mut [u8]) -> Result<usize, WriteError>
     ensures answer { answer_of result ≡ write_of command (length bytes.old) }
     ensures bytes { bytes.new ≡ bytes_after command bytes.old }
@@ -260,6 +268,7 @@ pub fn write(command: Command, bytes: &mut [u8]) -> Result<usize, WriteError>
 // ---- a block of storeys, given as words, six a set
 
 // The storey of a set.
+#[tactic(auto, unfolding(crate::specs::BlockGiven::storey_of_words))]
 fn storey_of(words: &[u32; 6]) -> Storey
     ensures { result ≡ storey_of_words words.now 0 }
 {
@@ -292,7 +301,8 @@ fn put_sets(bytes: &mut [u8], sets: &[[u32; 6]])
     ensures { Put bytes.old 2 (set_bytes (map (λ words. storey_of_words words 0) sets.now)) bytes.new }
 {
     for (set, words) in sets.iter().enumerate() {
-        storey_of(words).put(bytes, 2 + blocks::SET * set);
+        let at = 2 + blocks::SET * set;
+        storey_of(words).put(&mut bytes[at..at + blocks::SET]);
     }
 }
 
@@ -316,8 +326,8 @@ pub fn write_block(count: u32, sets: &[u32], bytes: &mut [u8]) -> Result<usize, 
     if bytes.len() < 2 + blocks::SET * n {
         return Err(WriteError::TooShort);
     }
-    numbers::put::<1>(bytes, 0, blocks::BLOCK as u32);
-    numbers::put::<1>(bytes, 1, count);
+    bytes[0] = blocks::BLOCK;
+    numbers::put::<1>(&mut bytes[1..2], count);
     put_sets(bytes, sets);
     Ok(2 + blocks::SET * n)
 }

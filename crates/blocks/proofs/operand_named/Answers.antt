@@ -12,12 +12,12 @@ loop-set-init c = search_begins c.args.sets.now (length c.args.sets.now / 24)
 pub read-requires : goal.read-requires
 read-requires c = width_here c.args.sets.now c.as_chunks.result.0.now c.loop-set.set c.as_chunks.ensures.front c.as_chunks.ensures.front_len c.loop-set-test.true
 
-pub operand_at_fault-requires : goal.operand_at_fault-requires
-operand_at_fault-requires c = width_here c.args.sets.now c.as_chunks.result.0.now c.loop-set.set c.as_chunks.ensures.front c.as_chunks.ensures.front_len c.loop-set-test.true
+pub new-storey-requires : goal.new-storey-requires
+new-storey-requires c = width_here c.args.sets.now c.as_chunks.result.0.now c.loop-set.set c.as_chunks.ensures.front c.as_chunks.ensures.front_len c.loop-set-test.true
 
 pub overflow_add-result-then-not-in_range : goal.overflow_add-result-then-not-in_range
 overflow_add-result-then-not-in_range c =
-    omega (arith, named_fits c.args.sets.now c.as_chunks.result.0.now c.loop-set.set c.as_chunks.ensures.front c.as_chunks.ensures.front_len c.loop-set-test.true c.operand_at_fault.result c.operand_at_fault.ensures c.requires)
+    omega (arith, named_fits c.args.sets.now c.as_chunks.result.0.now c.loop-set.set c.as_chunks.ensures.front c.as_chunks.ensures.front_len c.loop-set-test.true c.operand_at_fault.result (rw (c.new-storey.ensures.kind, c.new-storey.ensures.operands) at c.operand_at_fault.ensures) c.requires)
 
 pub returns-then-not-in_range : goal.returns-then-not-in_range
 returns-then-not-in_range c =
@@ -27,7 +27,7 @@ returns-then-not-in_range c =
     (below c.args.sets.now c.as_chunks.result.0.now c.loop-set.set c.as_chunks.ensures.front c.as_chunks.ensures.front_len c.loop-set-test.true)
     (range_here c.args.sets.now c.as_chunks.result.0.now c.loop-set.set c.as_chunks.ensures.front c.as_chunks.ensures.front_len c.loop-set-test.true c.read.ensures c.in_range.ensures c.if-not-in_range.true)
     (1 + 6 * set + r)
-    (ap (λ (k : ℕ). 1 + 6 * set + k) (fault_here c.args.sets.now c.as_chunks.result.0.now c.loop-set.set c.as_chunks.ensures.front c.as_chunks.ensures.front_len c.loop-set-test.true r c.operand_at_fault.ensures))
+    (ap (λ (k : ℕ). 1 + 6 * set + k) (fault_here c.args.sets.now c.as_chunks.result.0.now c.loop-set.set c.as_chunks.ensures.front c.as_chunks.ensures.front_len c.loop-set-test.true r (rw (c.new-storey.ensures.kind, c.new-storey.ensures.operands) at c.operand_at_fault.ensures)))
 
 pub loop-set-preserved : goal.loop-set-preserved
 loop-set-preserved c =

@@ -1,4 +1,4 @@
--- `format::soil_related` meets its contract: a kind above 1 is none. Assumes nothing.
+-- `format::soil_related` meets its contract: a kind that is no byte is none. Assumes nothing.
 use mathlib.Core.Path.{sym}
 use native.Mathlib.Omega.{arith}
 use lib.Ieee.{binary32, of_bits}
@@ -6,6 +6,7 @@ use Rattle.soil.specs.Reading.{soil_allowed}
 use Rattle.soil.proofs.Laws.{allowed_other}
 use Rattle.format.proofs.soil_related.Goals as goal
 
-pub returns-then-kind-gt-GREATEST_KIND : goal.returns-then-kind-gt-GREATEST_KIND
+pub returns-in-Err : goal.returns-in-Err
 unfolding soil_allowed
-returns-then-kind-gt-GREATEST_KIND c = sym (allowed_other c.args.kind (of_bits binary32 c.args.bits) (λ e. omega arith) (λ e. omega arith))
+returns-in-Err c =
+    sym (allowed_other c.args.kind (of_bits binary32 c.args.bits) (λ e. c.in-Err.ensures (omega arith)) (λ e. c.in-Err.ensures (omega arith)))

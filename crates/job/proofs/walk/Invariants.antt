@@ -6,10 +6,10 @@ use Rattle.job.specs.Walking.{walk_from}
 use Rattle.job.proofs.Stands.{Stands}
 use Rattle.job.proofs.walk.Given as goal
 
-abbrev pub invariant-loop-end : goal.invariant-loop-end
-invariant-loop-end l =
+abbrev pub invariant-loop-progress : goal.invariant-loop-progress
+invariant-loop-progress l =
     Stands (room_for (length l.initial.rows)) (walk_from (room_for (length l.initial.rows)) l.initial.left l.job l.initial.place l.initial.joints l.initial.rows) l.job
     l.initial.rows l.joints l.rows l.place l.left
 
-abbrev pub decreases-loop-end : goal.decreases-loop-end
-decreases-loop-end l = l.left
+abbrev pub decreases-loop-progress : goal.decreases-loop-progress
+decreases-loop-progress l = l.left

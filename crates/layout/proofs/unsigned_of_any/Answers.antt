@@ -1,7 +1,7 @@
 -- `layout::unsigned_of_any` meets its contract, byte by byte. Assumes nothing.
-use Rattle.std.proofs.Common.{ℕ, ◌<◌, ◌+◌, get_or, refl, sym, ◌∙◌, arith}
+use Rattle.std.proofs.Common.{◌<◌, refl, sym, ◌∙◌, arith}
 use lib.Dec.{lit<}
-use Rattle.layout.specs.Number.{number, number_after}
+use Rattle.layout.specs.Number.{number}
 use Rattle.layout.proofs.Numbers.{next_small, next_after, none_after}
 use Rattle.layout.proofs.unsigned_of_any.Goals as goal
 

@@ -1,5 +1,5 @@
 -- `layout::unsigned_of_any`: the number so far with the bytes that follow is that of all, and it has no more bytes than were read. Assumes nothing.
-use Rattle.std.proofs.Common.{◌≡◌, ℕ, ◌<◌, ◌^◌, drop}
+use Rattle.std.proofs.Common.{◌≡◌, ◌<◌, ◌^◌, drop}
 use Rattle.layout.specs.Number.{number, number_after}
 use Rattle.layout.proofs.unsigned_of_any.Given as goal
 

@@ -2,6 +2,7 @@
 use Rattle.std.proofs.Common.{rules, SFits}
 use Rattle.std.specs.Int.{w32}
 use Rattle.format.proofs.CommandRanges.{wall_base_in_range}
+use Rattle.context.proofs.Laws.{joint_given}
 use Rattle.context.proofs.Ranges.{column_range, beam_range, hingeless_range, storey_range, detail_range}
 use Rattle.rows.proofs.row_of.Goals as goal
 
@@ -18,8 +19,8 @@ pub hingeless_row-requires : goal.hingeless_row-requires
 hingeless_row-requires c =
     let fits : SFits w32 c.in-Hingeless.m.nonseismic = search rules in
     hingeless_range _ (rw c.in_ok-settings-in-Hingeless.was at c.requires.asks.state.settings) _ _
-    (rw c.in_ok-first-in-Hingeless.was at (c.requires.asks.joints c.in-Hingeless.id1))
-    (rw c.in_ok-second-in-Hingeless.was at (c.requires.asks.joints c.in-Hingeless.id2))
+    (joint_given _ _ c.requires.asks.joints c.in_ok-first-in-Hingeless.was)
+    (joint_given _ _ c.requires.asks.joints c.in_ok-second-in-Hingeless.was)
     _ _ _ fits (rw c.in-Hingeless.is at c.requires.asks.ranged)
 
 pub base_row-requires-clause-moment : goal.base_row-requires-clause-moment

@@ -4,4 +4,4 @@ use Rattle.rows.proofs.SetRows.{Filling}
 use Rattle.rows.proofs.write_sets.Given as goal
 
 abbrev pub invariant-loop-i : goal.invariant-loop-i
-invariant-loop-i l = Filling l.wall l.job l.at l.count l.n l.initial.rows l.rows l.i
+invariant-loop-i l = Filling l.wall l.sets l.at l.n l.initial.rows l.rows l.i

@@ -26,8 +26,9 @@ overflow_sub-result c = omega (arith, below c.args.bits c.requires.value)
 
 pub overflow_cast-result-2 : goal.overflow_cast-result-2
 overflow_cast-result-2 c =
-    subst (λ (r : ℕ). Fits w32 r) (shifted c.args.bits c.args.factor c.if-field-lt87.false (below c.args.bits c.requires.value))
-    (fits c.args.factor _ c.requires.factor (cut_le 1000 c.args.factor _ c.requires.value))
+    rw (c.from.ensures, c.from-2.ensures)
+    (subst (λ (r : ℕ). Fits w32 r) (shifted c.args.bits c.args.factor c.if-field-lt87.false (below c.args.bits c.requires.value))
+    (fits c.args.factor _ c.requires.factor (cut_le 1000 c.args.factor _ c.requires.value)))
 
 pub returns : goal.returns
-returns c = sym (shifted c.args.bits c.args.factor c.if-field-lt87.false (below c.args.bits c.requires.value))
+returns c = rw (c.from.ensures, c.from-2.ensures) (sym (shifted c.args.bits c.args.factor c.if-field-lt87.false (below c.args.bits c.requires.value)))

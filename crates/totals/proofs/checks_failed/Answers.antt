@@ -6,11 +6,11 @@ use Rattle.totals.specs.Rows.{checks_of}
 use Rattle.totals.proofs.Verdicts.{good_not_negative, good_below}
 use Rattle.totals.proofs.checks_failed.Goals as goal
 
-pub overflow_cast-ones : goal.overflow_cast-ones
-overflow_cast-ones c =
+pub overflow_cast-verdict : goal.overflow_cast-verdict
+overflow_cast-verdict c =
     rw (to_z-of_z c.ranges.verdict)
     (good_not_negative c.args.verdict c.requires, omega (arith, good_below c.args.verdict c.requires))
 
 pub returns : goal.returns
 unfolding checks_of
-returns c = rw (to_z-of_z c.ranges.verdict)
+returns c = rw (to_z-of_z c.ranges.verdict) at c.from.ensures

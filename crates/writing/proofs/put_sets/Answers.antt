@@ -13,7 +13,7 @@ put-requires c = omega (arith, widths.storey, c.loop-set.invariant.kept, c.requi
 pub loop-set-preserved : goal.loop-set-preserved
 loop-set-preserved c =
     let l = c.loop-set in
-    puts_on c.args.bytes.now c.args.sets.now l.bytes l.set l.invariant c.loop-set-test.true c.requires (rw c.storey_of.ensures at c.put.ensures.put)
+    puts_on c.args.bytes.now c.args.sets.now l.bytes l.set l.invariant c.loop-set-test.true c.requires (rw c.storey_of.ensures at c.put.ensures.put) (omega arith)
 
 pub returns : goal.returns
 returns c = let l = c.loop-set in put_ends c.args.bytes.now c.args.sets.now l.bytes l.set l.invariant c.loop-set-test.false

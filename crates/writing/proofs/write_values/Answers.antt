@@ -28,4 +28,4 @@ returns g c =
     command_done (g.T.Operands.command v) (byte_of_kind g.T.Operands.KIND) (g.met.T.Puts.same_byte v) c.args.bytes.now (1 + c.width-width.result)
     (ap (λ (n : ℕ). 1 + n) (c.width-width.ensures ∙ ap (λ (k : Kind). operands_width (byte_of_kind k)) c.KIND.ensures))
     c.in_range.ensures c.if-not-in_range.false c.put.ensures.types c.if-bytes-width.false
-    (rw (c.byte.ensures, c.KIND-2.ensures) at c.put.ensures.put)
+    (rw c.KIND-2.ensures at c.from.ensures) c.put.ensures.put

@@ -11,12 +11,12 @@ returns-then-n-ge-LEAST_NORMAL c =
     let s = c.args.self.now in
     let f = s.footing in
     let r = s.range in
-    let e = c.eccentricities in
+    let e = c.resultant in
     let n = read_as (c.down-n.ensures ∙ ap (λ (x : SignedFraction). down_s x) (rw (read32 f.nv r.nv, read32 f.ne r.ne) at c.action.ensures.value)) c.down-n.type_inv in
     let h = c.size_up-h.ensures ∙ ap (λ (x : SignedFraction). up_f (size x)) (rw (read32 f.hv r.hv, read32 f.he r.he) at c.action-2.ensures.value) in
     c.heavy_row.ensures
-    ∙ heavy_path s.settings f s.soil s.sensitive c.args.sign _ e.result.along_breadth e.result.along_length c.size_up-h.result
-    c.if-n-ge-LEAST_NORMAL.true n (rw n at e.ensures.along_breadth) (rw n at e.ensures.along_length) h
+    ∙ heavy_path s.settings f s.soil s.sensitive c.args.sign _ e.result.normal e.result.along_breadth e.result.along_length c.size_up-h.result
+    c.if-n-ge-LEAST_NORMAL.true n e.ensures.normal (rw n at e.ensures.along_breadth) (rw n at e.ensures.along_length) h
 
 pub returns-else-n-ge-LEAST_NORMAL : goal.returns-else-n-ge-LEAST_NORMAL
 returns-else-n-ge-LEAST_NORMAL c =

@@ -28,7 +28,7 @@ returns c =
       c.signed_in_range-8.ensures,
       c.in_range-3.ensures,
       c.in_range-4.ensures,
-      c.between.ensures,
+      c.in_range-5.ensures,
       as_in_file f.nv (omega arith),
       as_in_file f.ne (omega arith),
       as_in_file f.xv (omega arith),

@@ -1,7 +1,6 @@
 -- `writing::Detail::put` meets its contract: one number after the other. Assumes nothing.
-use mathlib.Core.Path.{refl}
-use native.Mathlib.Omega.{arith}
-use Rattle.slices.proofs.Writing.{behind}
+use mathlib.Core.Path.{refl, sym}
+use Rattle.writing.proofs.Filling.{begun, fill, filled}
 use Rattle.layout.specs.Forms.{width}
 use Rattle.layout.specs.Layouts.{forms_of, forms_in, width_of_all, operands_width}
 use Rattle.numbers.specs.BigEndian.{big_endian}
@@ -11,8 +10,9 @@ use Rattle.writing.proofs.DetailPuts.put.Goals as goal
 pub returns : goal.returns
 unfolding operand_bytes big_endian forms_of forms_in width width_of_all operands_width
 returns c =
-    let p2 = behind c.put.ensures c.put-2.ensures refl (omega (arith, c.requires)) in
-    let p3 = behind p2 c.put-3.ensures refl (omega (arith, c.requires)) in
-    let p4 = behind p3 c.put-4.ensures refl (omega (arith, c.requires)) in
-    let p5 = behind p4 c.put-5.ensures refl (omega (arith, c.requires)) in
-    record { put = p5; types = tt }
+    let p1 = fill (begun c.args.bytes.now) refl c.put.ensures refl in
+    let p2 = fill p1 refl c.put-2.ensures refl in
+    let p3 = fill p2 refl c.put-3.ensures refl in
+    let p4 = fill p3 refl c.put-4.ensures refl in
+    let p5 = fill p4 refl c.put-5.ensures refl in
+    record { put = filled p5 (sym c.requires); types = tt }

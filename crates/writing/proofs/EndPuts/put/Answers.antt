@@ -1,10 +1,10 @@
 -- `writing::End::put` meets its contract: there is nothing to put. Assumes nothing.
 use mathlib.Core.Path.{sym}
-use Rattle.slices.proofs.Writing.{written_none}
-use Rattle.layout.specs.Layouts.{forms_of, forms_in}
+use Rattle.layout.specs.Layouts.{forms_of, forms_in, width_of_all, operands_width}
 use Rattle.writing.specs.Bytes.{operand_bytes}
+use Rattle.writing.proofs.Filling.{begun, filled}
 use Rattle.writing.proofs.EndPuts.put.Goals as goal
 
-pub returns : goal.returns
-unfolding operand_bytes forms_of forms_in
-returns c = record { put = record { bytes = sym (written_none c.args._bytes.now c.args._at) }; types = tt }
+pub returns-clause-put : goal.returns-clause-put
+unfolding operand_bytes forms_of forms_in width_of_all operands_width
+returns-clause-put c = filled (begun c.args._bytes.now) (sym c.requires)

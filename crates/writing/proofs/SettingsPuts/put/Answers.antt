@@ -1,16 +1,16 @@
 -- `writing::Settings::put` meets its contract: one number after the other. Assumes nothing.
-use mathlib.Core.Path.{refl}
-use native.Mathlib.Omega.{arith}
-use Rattle.slices.proofs.Writing.{behind}
+use mathlib.Core.Path.{refl, sym}
 use Rattle.layout.specs.Forms.{width}
 use Rattle.layout.specs.Layouts.{forms_of, forms_in, width_of_all, operands_width}
 use Rattle.numbers.specs.BigEndian.{big_endian}
 use Rattle.writing.specs.Bytes.{operand_bytes}
+use Rattle.writing.proofs.Filling.{begun, fill, filled}
 use Rattle.writing.proofs.SettingsPuts.put.Goals as goal
 
-pub returns : goal.returns
+pub returns-clause-put : goal.returns-clause-put
 unfolding operand_bytes big_endian forms_of forms_in width width_of_all operands_width
-returns c =
-    let p2 = behind c.put.ensures c.put-2.ensures refl (omega (arith, c.requires)) in
-    let p3 = behind p2 c.put-3.ensures refl (omega (arith, c.requires)) in
-    record { put = p3; types = tt }
+returns-clause-put c =
+    let p1 = fill (begun c.args.bytes.now) refl c.put.ensures refl in
+    let p2 = fill p1 refl c.put-2.ensures refl in
+    let p3 = fill p2 refl c.put-3.ensures refl in
+    filled p3 (sym c.requires)
