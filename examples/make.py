@@ -21,6 +21,7 @@ COMMANDS = {
     "footing":   (0x09, "B:I L:I MR:I ME:I NV:i NE:i XV:i XE:i YV:i YE:i HV:i HE:i U:I P:I flags:B"),
     "detail":    (0x0A, "place:B xu:H xy:H mu:H lap:B"),
     "block":     (0x0B, "count:B"),  # then so many sets, each the operands of a storey
+    "basement":  (0x0C, "place:B id:B VV:i VE:I MV:i ME:I VR:I MR:I"),
 }
 END = b"\x00"
 
@@ -56,7 +57,9 @@ def write(folder, name, commands):
 
 SETTINGS = command("settings", "settings", q=350, gj=140, gf=120)
 GRANULAR, COHESIVE = 0, 1
+# Places of a detail; places of a basement member, where its nearest possible hinge is.
 COLUMN, BEAM, WALL_BASE = 0, 1, 2
+JOINT, WALL = 0, 1
 # Flags of a footing: bits 0 and 1 (uncertainties minimised, strict tolerances), and bit 2 (full contact, so that P counts).
 BOTH, CONTACT = 3, 4
 
@@ -76,6 +79,13 @@ F4 = dict(B=2000, L=2600, MR=260000, ME=130000, NV=650000, NE=90000, XV=-40000, 
           YV=0, YE=25000, HV=15000, HE=90000, U=50000, P=60000)
 N1 = dict(length=3000, ME1=60000, ME2=60000, V0=-20000, VR=130000)
 N2 = dict(length=3200, ME1=110000, ME2=110000, V0=35000, VR=250000)
+K1 = dict(id=1, VV=-12000, VE=46000, MV=18000, ME=71000, VR=170000, MR=260000)
+
+# The base of the wall of wall.job, and the wall's parts in two basement storeys of 3.0 m. From the base down the seismic moment falls from
+# 4,200,000 N·m to 600,000 and then to 0, so the seismic shear is 1,200,000 N in the first basement and 200,000 N in the second.
+W1 = dict(length=4000, thickness=250, MR=8500000, ME=4200000, VE=1100000, VR=3200000)
+P1 = dict(place=WALL, id=0, VV=25000, VE=1200000, MV=-60000, ME=4200000, VR=3150000, MR=11200000)
+P2 = dict(place=WALL, id=0, VV=-8000, VE=200000, MV=-150000, ME=600000, VR=900000, MR=1700000)
 
 
 def times(factor, operands, names):
@@ -191,6 +201,23 @@ JOBS = {
                *(command("storey", f"wall W1, storey {storey}", **medium(storey)) for storey in range(1, 13))),
         command("detail", "wall W1, base section", place=WALL_BASE, xu=131, xy=250, mu=1000, lap=0),
     ],
+    # A building with basement storeys, below the hinges of its frames and of a wall: columns under two joints, one of which is given again;
+    # two parts of the wall.
+    "basement": [
+        SETTINGS,
+        command("joint", "joint 1, ground floor, axis 1", id=1, RB=210000, RC=380000, EB=120000),
+        command("joint", "joint 2, ground floor, no beam in this direction", id=2, RB=0, RC=380000, EB=0),
+        command("basement", "column K1, first basement, axis 1", place=JOINT, **K1),
+        command("basement", "column K2, first basement, under joint 2", place=JOINT, id=2, VV=9000, VE=30000, MV=-14000, ME=45000,
+                VR=125000, MR=175000),
+        command("joint", "joint 1, ground floor, axis 3, given again", id=1, RB=280000, RC=380000, EB=120000),
+        command("basement", "column K1, first basement, axis 3", place=JOINT, **K1),
+        command("wall_base", "wall W1, base, ground floor", **W1),
+        command("storey", "wall W1, storey 1", ME=3100000, VE=1020000, J=133333333, J0=133333333, VR=3000000, MS=8500000),
+        command("storey", "wall W1, storey 2", ME=2100000, VE=880000, J=133333333, J0=133333333, VR=2500000, MS=6500000),
+        command("basement", "wall W1, first basement", **P1),
+        command("basement", "wall W1, second basement", **P2),
+    ],
     # Footings on a granular soil, on a cohesive sensitive one, and a light one.
     "footings": [
         SETTINGS,
@@ -289,6 +316,10 @@ JOBS = {
         command("soil", "granular soil, tangent 0.5, again", kind=GRANULAR, value=0.5, sensitive=0),
         command("footing", "footing F2, beside a trench", **F4, flags=BOTH),
         command("footing", "footing F2, beside a trench, contact declared", **F4, flags=BOTH + CONTACT),
+        command("wall_base", "wall W1, base", **W1),
+        command("basement", "wall W1, first basement", **P1),
+        command("wall_base", "wall W2, base", **W1 | dict(MR=6000000, ME=5000000, VE=1000000)),
+        command("basement", "wall W1, first basement, after the base of W2", **P1),
     ],
 }
 
@@ -314,6 +345,12 @@ REFUSED = {
                command("storey", "wall W1, storey 1", ME=3100000, VE=1020000, J=133333333, J0=133333333, VR=3000000, MS=8500000),
                command("storey", "wall W1, storey 2", ME=2100000, VE=880000, J=133333333, J0=133333333, VR=2500000, MS=6500000),
                command("storey", "wall W1, storey 3", ME=1300000, VE=680000, J=133333334, J0=133333333, VR=2000000, MS=4000000)),
+    ],
+    # The number of a wall as the id of a basement member under it, where 0 is asked.
+    "basement-wall-id": [
+        SETTINGS,
+        command("wall_base", "wall W1, base", **W1),
+        command("basement", "wall W1, first basement", **P1 | dict(id=1)),
     ],
     # The friction angle in degrees for its tangent.
     "degrees": [SETTINGS, command("soil", "granular soil, 35 degrees", kind=GRANULAR, value=35.0, sensitive=0)],

@@ -23,14 +23,15 @@ use std::time::Instant;
 
 const COMMANDS: [usize; 4] = [10, 100, 1000, 4096];
 
-const KINDS: [(&str, Mix); 8] = [
-    ("column", Mix([0, 1, 0, 0, 0, 0, 0, 0, 0, 0])),
-    ("beam", Mix([0, 0, 1, 0, 0, 0, 0, 0, 0, 0])),
-    ("no hinges", Mix([1, 0, 0, 9, 0, 0, 0, 0, 0, 0])),
-    ("wall base", Mix([0, 0, 0, 0, 1, 0, 0, 0, 0, 0])),
-    ("storey", Mix([0, 0, 0, 0, 0, 1, 0, 0, 0, 0])),
-    ("footing", Mix([0, 0, 0, 0, 0, 0, 0, 1, 0, 0])),
-    ("detail", Mix([0, 0, 0, 0, 0, 0, 0, 0, 1, 0])),
+const KINDS: [(&str, Mix); 9] = [
+    ("column", Mix::only(3)),
+    ("beam", Mix::only(4)),
+    ("no hinges", Mix([1, 0, 0, 9, 0, 0, 0, 0, 0, 0, 0])),
+    ("wall base", Mix::only(6)),
+    ("storey", Mix::only(7)),
+    ("footing", Mix::only(9)),
+    ("detail", Mix::only(10)),
+    ("basement", Mix([1, 0, 0, 0, 1, 0, 0, 0, 0, 0, 18])),
     ("even mix", Mix::EVEN),
 ];
 
@@ -66,7 +67,7 @@ const PRINTS: [(&str, fn() -> Vec<i64>); 3] = [
 const WRITTEN: usize = 1000;
 
 /// The commands by their bytes, each with the race of its two writers.
-const WRITES: [(&str, u8, fn(usize, u8) -> [f64; 2]); 11] = [
+const WRITES: [(&str, u8, fn(usize, u8) -> [f64; 2]); 12] = [
     ("settings", 1, write::<commands::Settings>),
     ("joint", 2, write::<commands::Joint>),
     ("column", 3, write::<commands::Column>),
@@ -77,6 +78,7 @@ const WRITES: [(&str, u8, fn(usize, u8) -> [f64; 2]); 11] = [
     ("soil", 8, write::<commands::Soil>),
     ("footing", 9, write::<commands::Footing>),
     ("detail", 10, write::<commands::Detail>),
+    ("basement", 12, write::<commands::Basement>),
     ("end", 0, write::<commands::End>),
 ];
 

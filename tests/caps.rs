@@ -20,8 +20,8 @@ use rounds::{hexadecimal, Met};
 use shears::{Shear, EQUAL, KINDS, LARGER, SMALLER, WALL_BASE};
 use std::ops::Range;
 
-/// How often each of the commands 02 to 0B is drawn: mostly columns, beams and wall bases.
-const MIX: Mix = Mix([1, 6, 6, 1, 6, 1, 1, 1, 1, 0]);
+/// How often each of the commands 02 to 0C is drawn: mostly columns, beams and wall bases.
+const MIX: Mix = Mix([1, 6, 6, 1, 6, 1, 1, 1, 1, 0, 1]);
 
 /// A command's bytes.
 type Command = Vec<u8>;

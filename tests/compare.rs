@@ -7,6 +7,7 @@
 
 mod footings;
 mod generate;
+mod hinges;
 mod library;
 mod numbers;
 mod reference;
@@ -22,10 +23,10 @@ use rounds::{hexadecimal, Met, MANY};
 /// Words before and after the rows that a call is lent.
 const GUARD: usize = 16;
 
-/// The number of operands of each command, from 00 to 0B; a block has its count and, counted once for all of its sets, six.
-const OPERANDS: [usize; 12] = [0, 3, 4, 7, 8, 7, 6, 6, 3, 15, 5, 7];
+/// The number of operands of each command, from 00 to 0C; a block has its count and, counted once for all of its sets, six.
+const OPERANDS: [usize; 13] = [0, 3, 4, 7, 8, 7, 6, 6, 3, 15, 5, 7, 8];
 
-/// Command and place of the ids, which have no range.
+/// Command and place of the ids that are never at fault. That of a basement member is where it is not 0 for a wall.
 const IDS: [(usize, usize); 3] = [(2, 0), (5, 1), (5, 2)];
 
 fn main() {
@@ -69,12 +70,12 @@ struct Tally {
     /// Pages of accepted jobs, and those with a form feed.
     printed: u64,
     feeds: u64,
-    /// Cases of the commands of accepted jobs, of runs, of flags refused and of blocks refused.
+    /// Cases of the commands of accepted jobs, of runs, of flags refused, and of blocks and basement members refused.
     met: Met,
     /// By number, from 1 to 9.
     refused: [u64; 10],
     /// Jobs by the command and the operand at fault.
-    at_fault: [[u64; 15]; 12],
+    at_fault: [[u64; 15]; 13],
 }
 
 impl Tally {
@@ -88,6 +89,7 @@ impl Tally {
             self.met.add(flags_refused(job, fault));
         }
         self.met.add(storeys::refused(job, fault));
+        self.met.add(hinges::faults::refused(job, fault));
     }
 
     fn ran(&mut self, answer: &RunAnswer) {
@@ -127,11 +129,11 @@ impl std::fmt::Display for Tally {
 
 // The jobs.
 
-/// How often each of the commands 02 to 0B is drawn, in turn for ten jobs each, and the most commands: all kinds, mostly joints and
-/// members between them, or walls with blocks of storeys.
-const ALL: (Mix, u64) = (Mix([1, 2, 2, 3, 2, 4, 1, 5, 1, 0]), 40);
-const JOINTS: (Mix, u64) = (Mix([5, 1, 1, 8, 1, 1, 1, 1, 1, 0]), 40);
-const WALLS: (Mix, u64) = (Mix([0, 1, 0, 0, 4, 4, 0, 0, 1, 4]), 160);
+/// How often each of the commands 02 to 0C is drawn, in turn for ten jobs each, and the most commands: all kinds, mostly joints and
+/// members between or below them, or walls with blocks of storeys and members below.
+const ALL: (Mix, u64) = (Mix([1, 2, 2, 3, 2, 4, 1, 5, 1, 0, 3]), 40);
+const JOINTS: (Mix, u64) = (Mix([5, 1, 1, 8, 1, 1, 1, 1, 1, 0, 3]), 40);
+const WALLS: (Mix, u64) = (Mix([0, 1, 0, 0, 4, 4, 0, 0, 1, 5, 4]), 160);
 const MIXES: [(Mix, u64); 5] = [ALL, JOINTS, ALL, JOINTS, WALLS];
 
 /// One job of each kind in turn; every 200th is of 4,096 commands and every 200th of 4,097, and as many have a block near this limit.
@@ -153,6 +155,7 @@ fn draw(random: &mut Random, number: u64) -> Vec<u8> {
             generate::at_demand(random, &mut job);
             job = generate::damaged(random, &job);
         }
+        6 if random.one_in(3) => job = generate::basement_at_fault(random),
         6 => job = generate::random_operands(random, commands),
         7 => job = generate::out_of_range(random, &job),
         8 => {
@@ -168,18 +171,33 @@ fn draw(random: &mut Random, number: u64) -> Vec<u8> {
     job
 }
 
-/// A job of so many commands, all of one kind or of a mix. The generator stops at 4,096, so one more is put before the end.
+/// A job of so many commands, all of one kind or of a mix, or with the most rows. The generator stops at 4,096, so one more is put before
+/// the end, at times cut short.
 fn longest(random: &mut Random, commands: usize) -> Vec<u8> {
-    let mix = match random.below(4) {
-        0 => Mix::EVEN,
-        1 => Mix::only(9),
-        _ => Mix::only(3 + random.below(9) as u8),
+    let mut job = match random.below(8) {
+        0 => generate::most_rows(random),
+        1 | 2 => generate::valid(random, MOST_COMMANDS, &Mix::EVEN),
+        3 => generate::valid(random, MOST_COMMANDS, &Mix::only(9)),
+        _ => {
+            let code = 3 + random.below(10) as u8;
+            generate::valid(random, MOST_COMMANDS, &Mix::only(code))
+        }
     };
-    let mut job = generate::valid(random, MOST_COMMANDS, &mix);
     job.pop();
-    for _ in MOST_COMMANDS..commands {
+    if commands > MOST_COMMANDS && random.one_in(3) {
         // A detail in range: place 0, no depths, ductility 10.00, no lap.
         job.extend([0x0A, 0, 0, 0, 0, 0, 0x03, 0xE8, 0]);
+    } else if commands > MOST_COMMANDS {
+        let member = generate::basement(random);
+        let cut = if random.one_in(8) {
+            1 + random.below(26) as usize
+        } else {
+            member.len()
+        };
+        job.extend(&member[..cut]);
+        if cut < member.len() {
+            return job;
+        }
     }
     job.push(0);
     job
@@ -348,6 +366,10 @@ fn cases(job: &[u8], words: &[i64]) -> Vec<String> {
             cases.extend(footing.cases(row));
         }
     }
+    for member in hinges::of(job) {
+        let first = rows.partition_point(|row| row[0] < member.at as i64);
+        cases.extend(member.cases(&rows[first..first + 2]));
+    }
     cases
 }
 
@@ -377,6 +399,8 @@ fn wanted() -> Vec<String> {
         shears::wanted(),
         footings::wanted(),
         storeys::wanted(),
+        hinges::wanted(),
+        hinges::faults::wanted(),
         numbers::wanted(),
         refusals,
     ]

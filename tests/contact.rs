@@ -7,19 +7,21 @@
 
 #![allow(dead_code)]
 
+mod answers;
 mod footings;
 mod generate;
 mod library;
 mod reference;
 mod rounds;
 
-use footings::{Footing, Row, CONTACT, FLAGS, MOST_FLAGS, SLIDES, THRUST};
+use answers::{refused, rows, same, Row};
+use footings::{Footing, CONTACT, FLAGS, MOST_FLAGS, SLIDES, THRUST};
 use generate::{Mix, Random, LIMIT};
-use reference::{Fault, Refusal, ROW};
+use reference::Fault;
 use rounds::{hexadecimal, Met};
 
-/// How often each of the commands 02 to 0B is drawn: mostly soils and footings.
-const MIX: Mix = Mix([1, 1, 1, 1, 1, 1, 4, 12, 1, 0]);
+/// How often each of the commands 02 to 0C is drawn: mostly soils and footings.
+const MIX: Mix = Mix([1, 1, 1, 1, 1, 1, 4, 12, 1, 0, 1]);
 
 /// The command of a footing, and the places of P and the flags among its operands.
 const FOOTING: u32 = 9;
@@ -31,19 +33,9 @@ const LIGHT: i64 = 16;
 
 fn main() {
     rounds::compared("footings", wanted(), |random, met| {
-        let job = draw(random);
+        let job = generate::often_at_demand(random, &MIX);
         compare(random, &job, met)
     });
-}
-
-/// A job, in half of them with H at R here and there.
-fn draw(random: &mut Random) -> Vec<u8> {
-    let commands = random.between(3, 30) as usize;
-    let mut job = generate::valid(random, commands, &MIX);
-    if random.one_in(2) {
-        generate::at_demand(random, &mut job);
-    }
-    job
 }
 
 /// The job with these flags and this thrust in a footing.
@@ -63,7 +55,7 @@ fn compare(random: &mut Random, job: &[u8], met: &mut Met) -> Result<u64, String
     for footing in &footings {
         met.add(declared(job, footing)?);
         not_declared(random, job, footing)?;
-        met.add(refused(random, job, footing)?);
+        met.add(out_of_range(random, job, footing)?);
     }
     Ok(footings.len() as u64)
 }
@@ -131,7 +123,7 @@ fn not_declared(random: &mut Random, job: &[u8], footing: &Footing) -> Result<()
 
 /// Flags above 7 are refused in each call, 8 and others; so is P above its limit where it does not count. No word is written. What they
 /// are cases of.
-fn refused(random: &mut Random, job: &[u8], footing: &Footing) -> Result<Vec<String>, String> {
+fn out_of_range(random: &mut Random, job: &[u8], footing: &Footing) -> Result<Vec<String>, String> {
     let (flags, thrust) = (footing.flags() & !CONTACT, footing.thrust());
     let least = MOST_FLAGS + 1;
     let another = random.between(u64::from(least), 255) as u8;
@@ -140,54 +132,15 @@ fn refused(random: &mut Random, job: &[u8], footing: &Footing) -> Result<Vec<Str
         (another, thrust, FLAGS_OPERAND),
         (flags, LIMIT as u32 + 1, THRUST_OPERAND),
     ] {
-        refused_for(&given(job, footing, flags, thrust), footing.at, operand)?;
+        let fault = Fault {
+            number: 5,
+            offset: footing.at,
+            command: FOOTING,
+            operand,
+        };
+        refused(&given(job, footing, flags, thrust), &fault)?;
     }
     Ok(vec![format!("flags refused: {another}")])
-}
-
-/// A job is refused with 5 for this operand of the footing at an offset.
-fn refused_for(job: &[u8], offset: usize, operand: u32) -> Result<(), String> {
-    let refusal = Refusal {
-        number: 5,
-        offset,
-        needed: 0,
-    };
-    let fault = Fault {
-        number: 5,
-        offset,
-        command: FOOTING,
-        operand,
-    };
-    let mut words = [-1; ROW];
-    let ran = library::run(job, &mut words);
-    let answers = [library::size(job), ran.map(|totals| totals.rows)];
-    let found = library::fault(job);
-    if answers == [Err(refusal); 2] && found == fault && words == [-1; ROW] {
-        return Ok(());
-    }
-    let job = hexadecimal(job);
-    Err(format!("operand {operand}: {answers:?}, {found:?}\n{job}"))
-}
-
-/// Whether a job has these rows.
-fn same(what: &str, job: &[u8], expected: &[Row]) -> Result<(), String> {
-    let found = rows(job)?;
-    if found == expected {
-        return Ok(());
-    }
-    let differ = found.iter().zip(expected).find(|(one, other)| one != other);
-    Err(format!("{what}: {differ:?}\n{}", hexadecimal(job)))
-}
-
-/// The rows of a job, which is accepted.
-fn rows(job: &[u8]) -> Result<Vec<Row>, String> {
-    let mut words = vec![0; ROW * library::size(job).unwrap_or(0)];
-    let ran = library::run(job, &mut words);
-    let rows = words.as_chunks::<ROW>().0.to_vec();
-    match ran {
-        Ok(totals) if totals.rows == rows.len() => Ok(rows),
-        _ => Err(format!("{ran:?} for {}", hexadecimal(job))),
-    }
 }
 
 // The cases.

@@ -1,10 +1,11 @@
 //! Pseudo-random jobs of documents 01 and 02: valid ones, with joints given again and with the two terms of a smaller-of rule equal or
-//! nearly so, ones of walls, ones with strengths at the demand, ones with operands out of range, ones with a block at fault or at the limit
-//! of the commands, damaged ones, noise; single commands by their values; and words of rows.
+//! nearly so, ones of walls, ones with strengths at the demand, ones with operands out of range, ones with a block or a basement member at
+//! fault or at the limit of the commands, damaged ones, noise; single commands by their values; and words of rows.
 //! Assumes nothing; the same seed gives the same jobs.
 
 #![allow(dead_code, unused_imports)]
 
+mod basements;
 mod blocks;
 mod commands;
 mod faults;
@@ -12,6 +13,7 @@ pub mod rows;
 mod values;
 
 use crate::reference::{run, size, ROW};
+pub use basements::{basement, basement_at_fault, most_rows};
 pub use blocks::{block_at_fault, block_at_limit};
 pub use commands::{block, command};
 pub use faults::put as put_faults;
@@ -19,30 +21,32 @@ use values::Values;
 pub use values::{Random, LIMIT};
 
 /// Bytes of a command, its byte counted, by command byte; of a block those before its sets.
-const WIDTHS: [usize; 12] = [1, 7, 14, 29, 33, 23, 25, 25, 7, 58, 9, 2];
+const WIDTHS: [usize; 13] = [1, 7, 14, 29, 33, 23, 25, 25, 7, 58, 9, 2, 27];
 
 /// Bytes of a set.
 const SET: usize = 24;
 
+const WALL_BASE: u8 = 6;
 const STOREY: u8 = 7;
 pub const BLOCK: u8 = 11;
+pub const BASEMENT: u8 = 12;
 
 /// Commands of a job, end not counted; and the sets of a block. A block counts as many commands as it has sets.
 pub const MOST_COMMANDS: usize = 4096;
 pub const MOST_SETS: usize = 64;
 
-/// How often each of the commands 02 to 0B is drawn.
+/// How often each of the commands 02 to 0C is drawn.
 #[derive(Clone, Copy)]
-pub struct Mix(pub [u64; 10]);
+pub struct Mix(pub [u64; 11]);
 
 impl Mix {
     /// Each command but the block, which has the rows of many.
-    pub const EVEN: Mix = Mix([1, 1, 1, 1, 1, 1, 1, 1, 1, 0]);
+    pub const EVEN: Mix = Mix([1, 1, 1, 1, 1, 1, 1, 1, 1, 0, 1]);
 
     /// One command, with those that it needs before it.
-    pub fn only(code: u8) -> Mix {
-        let mut weights = [0; 10];
-        weights[usize::from(code) - 2] = 1;
+    pub const fn only(code: u8) -> Mix {
+        let mut weights = [0; 11];
+        weights[code as usize - 2] = 1;
         Mix(weights)
     }
 
@@ -61,8 +65,8 @@ impl Mix {
 }
 
 /// An accepted job with `commands` commands from 1 to 4,096, settings counted, end not.
-/// A command that lacks its joint, wall base or soil is replaced by what it lacks. A joint has a new id, or one that was given. A block
-/// has at most as many sets as there are commands left.
+/// A command that lacks its joint, wall base or soil is replaced by what it lacks, a basement member that lacks both by a joint. A joint
+/// has a new id, or one that was given. A block has at most as many sets as there are commands left.
 pub fn valid(random: &mut Random, commands: usize, mix: &Mix) -> Vec<u8> {
     let mut writer = Writer::begin(random, commands);
     while writer.left > 0 {
@@ -115,7 +119,8 @@ impl<'r> Writer<'r> {
     fn command(&mut self, wanted: u8) {
         let code = match wanted {
             5 if self.joints.is_empty() => 2,
-            STOREY | BLOCK if !self.wall => 6,
+            BASEMENT if self.joints.is_empty() && !self.wall => 2,
+            STOREY | BLOCK if !self.wall => WALL_BASE,
             9 if !self.soil => 8,
             _ => wanted,
         };
@@ -131,10 +136,11 @@ impl<'r> Writer<'r> {
             3 => self.column(),
             4 => self.beam(),
             5 => self.no_hinges(),
-            6 => self.wall_base(),
-            7 => self.storey(),
+            WALL_BASE => self.wall_base(),
+            STOREY => self.storey(),
             8 => self.soil(),
             9 => self.footing(),
+            BASEMENT => self.basement(),
             _ => self.detail(),
         }
     }
@@ -161,9 +167,9 @@ impl<'r> Writer<'r> {
         self.joints[place as usize]
     }
 
-    /// An id that was not given, of which one must be left.
+    /// An id that was not given, of which one must be left; 0 and 255 more often than others.
     fn new_id(&mut self) -> u8 {
-        let mut id = self.values.random.next() as u8;
+        let mut id = self.values.side(0, 255) as u8;
         while self.joints.contains(&id) {
             id = id.wrapping_add(1);
         }
@@ -284,11 +290,23 @@ impl<'r> Writer<'r> {
 
 // Strengths at the demand.
 
+/// An accepted job of 3 to 30 commands, in half of them with strengths at the demand.
+pub fn often_at_demand(random: &mut Random, mix: &Mix) -> Vec<u8> {
+    let commands = random.between(3, 30) as usize;
+    let mut job = valid(random, commands, mix);
+    if random.one_in(2) {
+        at_demand(random, &mut job);
+    }
+    job
+}
+
 /// Sets the strengths of an accepted job at the demand ±2, here and there within a 2000th of it; of a footing its
 /// sides at 2, 3 or 4 eccentricities and then H at R; of a detail xu. The job stays accepted.
 pub fn at_demand(random: &mut Random, job: &mut [u8]) {
+    let mut before = None;
     for row in rows_of(job) {
-        set_strength(random, job, &row);
+        set_strength(random, job, &row, before == Some(row[0]));
+        before = Some(row[0]);
     }
     let mut set = None;
     for row in rows_of(job) {
@@ -323,7 +341,8 @@ fn rows_of(job: &[u8]) -> Vec<[i64; ROW]> {
     words.as_chunks().0.to_vec()
 }
 
-fn set_strength(random: &mut Random, job: &mut [u8], row: &[i64; ROW]) {
+/// By a row, which may be the second of its command.
+fn set_strength(random: &mut Random, job: &mut [u8], row: &[i64; ROW], second: bool) {
     // A storey's row has the offset of its set where it is one of a block. ME of a set is below 7 in its first byte.
     let alone = job[row[0] as usize] == row[1] as u8;
     let at = row[0] as usize + usize::from(alone);
@@ -341,6 +360,10 @@ fn set_strength(random: &mut Random, job: &mut [u8], row: &[i64; ROW]) {
             let parts = 2 + random.below(3) as i64;
             put(job, at, random.near(parts * row[3]), 500, 20_000);
             put(job, at + 4, random.near(parts * row[4]), 500, 20_000);
+        }
+        12 => {
+            let strength = if second { at + 22 } else { at + 18 };
+            put(job, strength, random.near(side), 0, LIMIT);
         }
         _ => {
             let mu = i64::from(u16::from_be_bytes([job[at + 5], job[at + 6]]));
@@ -393,7 +416,7 @@ pub fn revised_between_members(job: &[u8]) -> bool {
 /// likely as another.
 pub fn out_of_range(random: &mut Random, job: &[u8]) -> Vec<u8> {
     let mut commands = split(job);
-    let present: Vec<u8> = (1..=BLOCK)
+    let present: Vec<u8> = (1..=BASEMENT)
         .filter(|&code| commands.iter().any(|command| command[0] == code))
         .collect();
     let code = present[random.below(present.len() as u64) as usize];
@@ -441,7 +464,7 @@ fn rearrange(random: &mut Random, job: &mut Vec<u8>) {
         0 => commands.swap(one, other),
         1 => commands.insert(other, commands[one].clone()),
         2 => drop(commands.remove(one)),
-        _ => commands[one][0] = random.below(13) as u8,
+        _ => commands[one][0] = random.below(14) as u8,
     }
     *job = commands.concat();
 }
@@ -486,7 +509,7 @@ pub fn noise(random: &mut Random, length: usize) -> Vec<u8> {
 pub fn random_operands(random: &mut Random, commands: usize) -> Vec<u8> {
     let mut job = Writer::begin(random, commands).job;
     for _ in 1..commands {
-        let code = 2 + random.below(10) as u8;
+        let code = 2 + random.below(11) as u8;
         let mut start = vec![code];
         if code == BLOCK {
             start.push(random.between(1, 4) as u8);

@@ -53,6 +53,9 @@ pub fn cases(number: u32, lent: usize, rows: &[i64]) -> Vec<String> {
         _ => SOME_FAILED,
     };
     let mut cases = vec![case(number, room), case(number, fails)];
+    if count == MOST_ROWS {
+        cases.push(case(number, MOST));
+    }
     if failed > 255 {
         cases.push(case(number, MANY_FAILED));
     }
@@ -75,6 +78,10 @@ const ONLY_FAILED: &str = "the only row failed";
 const ALL_FAILED: &str = "every row failed";
 const SOME_FAILED: &str = "some rows failed";
 const MANY_FAILED: &str = "more than 255 rows failed";
+const MOST: &str = "the most rows";
+
+/// The rows that a job has at most: settings, a wall base and 4,094 basement members.
+const MOST_ROWS: usize = 8189;
 
 /// The verdicts of several checks failed in one row: of a storey, a footing, a detail and a wall base.
 const SEVERAL: [i64; 4] = [1 + 2, 4 + 8, 32 + 64, 1 + 128];
@@ -98,6 +105,7 @@ pub fn wanted() -> Vec<String> {
             ALL_FAILED,
             SOME_FAILED,
             MANY_FAILED,
+            MOST,
         ];
         wanted.extend(fails.map(|name| case(number, name)));
         wanted.extend(SEVERAL.map(|bits| case(number, &several(bits))));

@@ -3,8 +3,8 @@
 //! Assumes nothing. A function is never inlined, as a call of the library cannot be, so that both pay for a call.
 
 use crate::library::write::{
-    Beam, Column, Detail, End, Footing, Hingeless, Joint, Settings, Soil, Storey, Values, WallBase,
-    WriteAnswer,
+    Basement, Beam, Column, Detail, End, Footing, Hingeless, Joint, Settings, Soil, Storey, Values,
+    WallBase, WriteAnswer,
 };
 use crate::reference::Printed;
 
@@ -250,6 +250,26 @@ impl Plain for Detail {
             b[1] = self.place as u8;
             halves(b, 2, [self.xu, self.xy, self.mu]);
             b[8] = self.lap as u8;
+        })
+    }
+}
+
+impl Plain for Basement {
+    #[inline(never)]
+    fn write_plainly(self, bytes: &mut [u8]) -> WriteAnswer {
+        let strengths = [self.vr, self.mr];
+        let in_range = self.place <= 1
+            && self.id <= 255
+            && loads([self.vv, self.mv])
+            && amounts([self.ve, self.me])
+            && amounts(strengths)
+            && (self.place == 0 || self.id == 0);
+        put::<27>(in_range, bytes, |b| {
+            b[0] = 12;
+            b[1] = self.place as u8;
+            b[2] = self.id as u8;
+            words(b, 3, [self.vv as u32, self.ve, self.mv as u32, self.me]);
+            words(b, 19, strengths);
         })
     }
 }

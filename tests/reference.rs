@@ -1,7 +1,8 @@
-//! Document 01 with requests No. 1 to 3 and 5 to 8 of document 02 in plain Rust: size, run, take-down, writing a command and printing
+//! Document 01 with requests No. 1 to 3 and 5 to 9 of document 02 in plain Rust: size, run, take-down, writing a command and printing
 //! a page, written from the papers; and the operand at fault.
 //! Assumes nothing of the job's bytes, the rows or the number of rows.
 
+mod basement;
 mod blocks;
 mod footing;
 mod members;
@@ -11,6 +12,7 @@ mod printing;
 mod tests;
 mod writing;
 
+use basement::BasementMember;
 use footing::{Footing, Soil, SoilGiven};
 use members::{Beam, Column, Detail, Joint, NoHinges, Settings, Storey, Wall, WallBase};
 use operands::Operands;
@@ -34,6 +36,7 @@ const SOIL: u8 = 0x08;
 const FOOTING: u8 = 0x09;
 const DETAIL: u8 = 0x0A;
 const BLOCK: u8 = 0x0B;
+const BASEMENT: u8 = 0x0C;
 
 /// Commands of a job, end not counted; a block counts as so many as it has sets.
 const MOST_COMMANDS: usize = 4096;
@@ -134,6 +137,7 @@ fn at_fault(bytes: &[u8]) -> Option<usize> {
         STOREY => Storey::read(fixed(operands)).at_fault(),
         SOIL => SoilGiven::read(fixed(operands)).at_fault(),
         FOOTING => Footing::read(fixed(operands)).at_fault(),
+        BASEMENT => BasementMember::read(fixed(operands)).at_fault(),
         _ => Detail::read(fixed(operands)).at_fault(),
     }
 }
@@ -234,6 +238,7 @@ fn width(code: u8) -> Option<usize> {
         WALL_BASE | STOREY => 24,
         FOOTING => 57,
         DETAIL => 8,
+        BASEMENT => 26,
         _ => return None,
     })
 }
@@ -267,40 +272,40 @@ impl Given {
                 self.joints[id] = true;
                 Ok(0)
             }
-            COLUMN => ensure(Column::read(fixed(operands)).in_range(), 5).map(|()| 1),
-            BEAM => ensure(Beam::read(fixed(operands)).in_range(), 5).map(|()| 1),
+            COLUMN => rows_of(1, Column::read(fixed(operands)).in_range(), true),
+            BEAM => rows_of(1, Beam::read(fixed(operands)).in_range(), true),
             NO_HINGES => {
                 let member = NoHinges::read(fixed(operands));
-                ensure(member.in_range(), 5)?;
-                ensure(
-                    self.joints[member.joints[0]] && self.joints[member.joints[1]],
-                    6,
-                )?;
-                Ok(1)
+                let [one, other] = member.joints;
+                rows_of(1, member.in_range(), self.joints[one] && self.joints[other])
             }
             WALL_BASE => {
                 ensure(WallBase::read(fixed(operands)).in_range(), 5)?;
                 self.wall = true;
                 Ok(1)
             }
-            STOREY => {
-                ensure(Storey::read(fixed(operands)).in_range(), 5)?;
-                ensure(self.wall, 6)?;
-                Ok(1)
-            }
+            STOREY => rows_of(1, Storey::read(fixed(operands)).in_range(), self.wall),
             SOIL => {
                 ensure(SoilGiven::read(fixed(operands)).in_range(), 5)?;
                 self.soil = true;
                 Ok(0)
             }
-            FOOTING => {
-                ensure(Footing::read(fixed(operands)).in_range(), 5)?;
-                ensure(self.soil, 6)?;
-                Ok(2)
+            FOOTING => rows_of(2, Footing::read(fixed(operands)).in_range(), self.soil),
+            BASEMENT => {
+                let member = BasementMember::read(fixed(operands));
+                let given = member.joint().map_or(self.wall, |id| self.joints[id]);
+                rows_of(2, member.in_range(), given)
             }
-            _ => ensure(Detail::read(fixed(operands)).in_range(), 5).map(|()| 1),
+            _ => rows_of(1, Detail::read(fixed(operands)).in_range(), true),
         }
     }
+}
+
+/// So many rows; or 5 for a command out of range, then 6 where what it needs was not given.
+fn rows_of(rows: usize, in_range: bool, given: bool) -> Result<usize, u8> {
+    ensure(in_range, 5)?;
+    ensure(given, 6)?;
+    Ok(rows)
 }
 
 fn ensure(holds: bool, number: u8) -> Result<(), u8> {
@@ -330,6 +335,38 @@ impl Held {
             soil: Soil::default(),
         }
     }
+
+    /// Meets a command other than a block: what it gives holds from there on, and words 2 to 7 of its rows are put, in their order.
+    fn meet(&mut self, code: u8, operands: &[u8], mut put: impl FnMut([i64; 6])) {
+        match code {
+            SETTINGS => self.settings = Settings::read(fixed(operands)),
+            JOINT => {
+                let (id, joint) = Joint::read(fixed(operands));
+                self.joints[id] = joint;
+            }
+            COLUMN => put(Column::read(fixed(operands)).row(self.settings.q)),
+            BEAM => put(Beam::read(fixed(operands)).row(self.settings.q)),
+            NO_HINGES => put(NoHinges::read(fixed(operands)).row(&self.settings, &self.joints)),
+            WALL_BASE => {
+                let base = WallBase::read(fixed(operands));
+                self.wall = base.wall(self.settings.q);
+                put(base.row(&self.wall));
+            }
+            STOREY => put(Storey::read(fixed(operands)).row(&self.wall)),
+            SOIL => self.soil = SoilGiven::read(fixed(operands)).soil(),
+            FOOTING => {
+                let footing = Footing::read(fixed(operands));
+                put(footing.row(self, 1));
+                put(footing.row(self, -1));
+            }
+            BASEMENT => {
+                let [shear, moment] = BasementMember::read(fixed(operands)).rows(self);
+                put(shear);
+                put(moment);
+            }
+            _ => put(Detail::read(fixed(operands)).row()),
+        }
+    }
 }
 
 /// Writes the rows of an accepted job; `rows` has exactly as many as the job.
@@ -344,33 +381,13 @@ fn write(job: &[u8], rows: &mut [[i64; ROW]]) {
             _ => width(code).expect("a known command"),
         };
         let operands = &job[at + 1..][..width];
-        let mut put = |w: [i64; 6]| {
-            let row = rows.next().expect("a row of the job");
-            *row = placed(at, code, w);
-        };
-        match code {
-            SETTINGS => held.settings = Settings::read(fixed(operands)),
-            JOINT => {
-                let (id, joint) = Joint::read(fixed(operands));
-                held.joints[id] = joint;
-            }
-            COLUMN => put(Column::read(fixed(operands)).row(held.settings.q)),
-            BEAM => put(Beam::read(fixed(operands)).row(held.settings.q)),
-            NO_HINGES => put(NoHinges::read(fixed(operands)).row(&held.settings, &held.joints)),
-            WALL_BASE => {
-                let base = WallBase::read(fixed(operands));
-                held.wall = base.wall(held.settings.q);
-                put(base.row(&held.wall));
-            }
-            STOREY => put(Storey::read(fixed(operands)).row(&held.wall)),
-            BLOCK => write_sets(at + blocks::HEAD, &operands[1..], &held.wall, &mut rows),
-            SOIL => held.soil = SoilGiven::read(fixed(operands)).soil(),
-            FOOTING => {
-                let footing = Footing::read(fixed(operands));
-                put(footing.row(&held, 1));
-                put(footing.row(&held, -1));
-            }
-            _ => put(Detail::read(fixed(operands)).row()),
+        if code == BLOCK {
+            write_sets(at + blocks::HEAD, &operands[1..], &held.wall, &mut rows);
+        } else {
+            held.meet(code, operands, |w| {
+                let row = rows.next().expect("a row of the job");
+                *row = placed(at, code, w);
+            });
         }
         at += 1 + width;
     }

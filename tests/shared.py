@@ -21,11 +21,12 @@ WORDS, LENT, AS_LENT = 8, 8192, 0x5A5A5A5A5A5A5A5A
 # The columns of the page and the lines before a form feed.
 COLUMNS, LINES = (7, 3, 13, 13, 13, 13, 13, 5), 50
 
-# Commands in range; each operand that may be 0 is 0.
+# Commands in range; each operand that may be 0 is 0. The basement member stands under the wall, with VE and ME 1 and no strengths.
 SETTINGS = bytes.fromhex("01 015E 008C 0078")
 SOIL = bytes.fromhex("08 00 00000000 00")
 FOOTING = bytes.fromhex("09 000001F4 000001F4") + bytes(49)
 BASE = bytes.fromhex("06 00000064 00000064") + bytes(16)
+BASEMENT = bytes.fromhex("0C 01 00 00000000 00000001 00000000 00000001") + bytes(8)
 SET = (0, 0, 1, 1, 0, 0)
 
 # The byte of a block, and the words of a set.
@@ -65,7 +66,7 @@ CALLS = {
 
 def structs_of(header):
     """The structs of the header by their names: those of the answers, and those with the values of a command, in the order of the
-    commands' bytes from 01 on."""
+    commands' bytes from 01 on; a block has none."""
     types = {"bool": "bool", "uint32_t": "u32", "uint64_t": "u64", "size_t": "size", "int32_t": "i32", "float": "f32"}
     bodies = re.findall(r"^struct eak_(\w+) \{\n(.*?)^\};", header, re.M | re.S)
     structs = {name: struct(*[f"{types[kind]} {member}" for kind, member in re.findall(r"^    (\w+) (\w+);", body, re.M)])
@@ -131,7 +132,7 @@ def named():
 def described():
     """The members of each command's struct, as the document's table of the calls names them."""
     with open("docs/FORMAT.md", encoding="utf-8") as file:
-        rows = re.findall(r"^\| 0[1-9A] [a-z ]+ \| `eak_write_(\w+)` \| (.+) \|$", file.read(), re.M)
+        rows = re.findall(r"^\| 0[1-9AC] [a-z ]+ \| `eak_write_(\w+)` \| (.+) \|$", file.read(), re.M)
     return {name: re.findall(r"`(\w+)`", members) for name, members in rows}
 
 
@@ -142,7 +143,7 @@ def write_block(library, count, words, lent, room):
 def written(library, commands, job):
     """The bytes of an accepted job, each command written again by its call where the last one ended; and a byte more, as lent."""
     layouts = dict(runpy.run_path("examples/make.py")["COMMANDS"].values())
-    names = dict(enumerate(commands, 1))
+    names = dict(zip((code for code in sorted(layouts) if code != BLOCK), commands))
     lent = (ctypes.c_uint8 * (len(job) + 1))(*[0x5A] * (len(job) + 1))
     at = 0
     while job[at]:
@@ -233,26 +234,33 @@ def no_elements(library, same):
 
 
 def most_rows(library, most, same):
-    """The job with the most rows, whose footings are all too light: verdict 16. A footing more is refused."""
-    start, footings = SETTINGS + SOIL, FOOTING * 4094
-    job = start + footings + b"\0"
+    """The job with the most rows: a wall base that is not slender, with no moment, so that q, 3.50, is the coefficient of the basement
+    members under it, of which each fails by its shear and by its moment. A member more is refused."""
+    members = 4094
+    start = SETTINGS + BASE + BASEMENT * members
+    job = start + b"\0"
     same("the most rows", (True, 0, 0, most), values(library.eak_size(job, len(job))))
     answer, lent = run(library, job, WORDS * most)
     same("their run", ((True, 0, 0, most, most, most, 0), AS_LENT), (values(answer), lent[-1]))
-    same("their verdicts", {16}, set(lent[7::WORDS]))
+    same("their verdicts", [128] + [1, 2] * members, lent[7::WORDS])
+    end = len(start) - len(BASEMENT)
+    same("the last two", [end, 0x0C, 4, -4, 0, 0, 0, 1, end, 0x0C, 4, -4, 0, 0, 0, 2], lent[-2 * WORDS - 1:-1])
     run_on_too_few(library, "the most rows", job, most, same)
-    more = start + footings + FOOTING + b"\0"
-    same("a footing more", (False, 8, len(start + footings), 0), values(library.eak_size(more, len(more))))
+    more = start + BASEMENT + b"\0"
+    same("a member more", (False, 8, len(start), 0), values(library.eak_size(more, len(more))))
 
 
 def refused_writes(library, commands, most, same):
     """Values out of range, too few bytes, and the command with the most bytes."""
     lent = (ctypes.c_uint8 * most)(*[0x5A] * most)
-    settings, joint, footing = commands["settings"], commands["joint"], commands["footing"]
+    settings, joint, footing, basement = (commands[name] for name in ("settings", "joint", "footing", "basement"))
     same("an id of 300", (5, 0, 0), values(library.eak_write_joint(joint(300, 0, 0, 0), lent, most)))
     same("q 70,000 in no bytes", (5, 0, 0), values(library.eak_write_settings(settings(70000, 140, 120), lent, 0)))
     same("settings in six bytes", (11, 0, 0), values(library.eak_write_settings(settings(350, 140, 120), lent, 6)))
     same("flags 8 in no bytes", (5, 0, 0), values(library.eak_write_footing(footing(500, 500, flags=8), lent, 0)))
+    for what, hinge in (("joint 300", (0, 300)), ("a wall with id 1", (1, 1)), ("a wall with id 256", (1, 256)), ("place 2", (2, 0))):
+        same(f"a basement member, {what}", (5, 0, 0), values(library.eak_write_basement(basement(*hinge), lent, 0)))
+    same("a basement member in 26 bytes", (11, 0, 0), values(library.eak_write_basement(basement(0, 255), lent, 26)))
     same("the end in no bytes", (11, 0, 0), values(library.eak_write_end(lent, 0)))
     same("the bytes of refused commands", {0x5A}, set(lent))
     same("the most bytes", (0, 0, most), values(library.eak_write_footing(footing(500, 500), lent, most)))

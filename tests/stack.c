@@ -42,6 +42,7 @@ WRITES(storey, 1, 2, 3, 4, 5, 6)
 WRITES(soil, 1, 80.0f, 1)
 WRITES(footing, 2000, 3000, 1, 2, -3, 4, -5, 6, -7, 8, -9, 10, 11, 12, 3)
 WRITES(detail, 2, 131, 250, 1000, 1)
+WRITES(basement, 0, 255, -1, 2, -3, 4, 5, 6)
 
 static const struct {
     const char *name;
@@ -63,6 +64,7 @@ static const struct {
     {"eak_write_soil", write_soil},
     {"eak_write_footing", write_footing},
     {"eak_write_detail", write_detail},
+    {"eak_write_basement", write_basement},
     {"eak_write_block", write_block},
     {"eak_write_end", write_end},
 };

@@ -21,10 +21,10 @@ const BASE: u8 = 6;
 const STOREY: u8 = 7;
 
 /// The commands that may stand between a wall base and its storey.
-const BETWEEN: [u8; 8] = [2, 3, 4, 5, STOREY, 8, 9, 10];
+const BETWEEN: [u8; 9] = [2, 3, 4, 5, STOREY, 8, 9, 10, 12];
 
-/// How often each of the commands 02 to 0B is drawn: walls apart.
-const OTHERS: Mix = Mix([2, 1, 1, 2, 0, 0, 1, 2, 1, 0]);
+/// How often each of the commands 02 to 0C is drawn: walls apart.
+const OTHERS: Mix = Mix([2, 1, 1, 2, 0, 0, 1, 2, 1, 0, 2]);
 
 /// The bytes of what a storey depends on in other commands: q of the settings; MR, ME and VE of the wall base.
 const Q: Range<usize> = 1..3;

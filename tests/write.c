@@ -27,6 +27,9 @@ static const uint32_t sets[] = {
     600000, 430000, 106666667, 133333333, 1400000, 3000000,
     150000, 160000, 45000000, 133333333, 800000, 2200000,
 };
+/* place, id, vv, ve, mv, me, vr, mr: of a column below joint 1 and of wall W1 below its base */
+static const struct eak_basement column_below = {0, 1, -8000, 45000, 12000, 60000, 160000, 190000};
+static const struct eak_basement wall_below = {1, 0, 40000, 900000, -150000, 4000000, 3000000, 12000000};
 /* kind, value, sensitive */
 static const struct eak_soil soil = {0, 0.7f, 0};
 /* b, l, mr, me, nv, ne, xv, xe, yv, ye, hv, he, u, p, flags */
@@ -58,6 +61,8 @@ static void write_job(void) {
     for (size_t i = 0; i < sizeof storeys / sizeof storeys[0]; i++)
         put(eak_write_storey(storeys[i], job + bytes, sizeof job - bytes), "storey of wall W1");
     put(eak_write_block(2, sets, sizeof sets / sizeof sets[0], job + bytes, sizeof job - bytes), "upper storeys of wall W1");
+    put(eak_write_basement(column_below, job + bytes, sizeof job - bytes), "basement column below joint 1");
+    put(eak_write_basement(wall_below, job + bytes, sizeof job - bytes), "basement of wall W1");
     put(eak_write_soil(soil, job + bytes, sizeof job - bytes), "soil");
     put(eak_write_footing(footing, job + bytes, sizeof job - bytes), "footing F1");
     put(eak_write_detail(detail, job + bytes, sizeof job - bytes), "detail of wall W1");

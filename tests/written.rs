@@ -12,7 +12,7 @@ mod library;
 mod reference;
 mod rounds;
 
-use generate::Random;
+use generate::{Random, BASEMENT, BLOCK};
 use library::write::{write_block, write_command};
 use reference::{Command, Written};
 use rounds::Met;
@@ -22,9 +22,8 @@ use std::cmp::Ordering;
 const GUARD: usize = 64;
 
 /// The commands by their bytes, blocks apart.
-const CODES: std::ops::RangeInclusive<u8> = 0..=10;
+const CODES: [u8; 12] = [0, 1, 2, 3, 4, 5, 6, 7, 8, 9, 10, BASEMENT];
 const SOIL: u8 = 8;
-const BLOCK: u8 = 11;
 
 fn main() {
     let (commands, seed) = rounds::arguments();
@@ -41,7 +40,7 @@ fn main() {
 
 /// A command of each kind in turn; with every twentieth a file of commands.
 fn compare(random: &mut Random, number: u64, met: &mut Met) -> Result<(), String> {
-    let code = (number % 12) as u8;
+    let code = (number % 13) as u8;
     if code == BLOCK {
         met.add(block(random)?);
     } else {
@@ -141,7 +140,7 @@ fn file(random: &mut Random) -> Result<(), String> {
     let mut at = 0;
     let mut accepted = Vec::new();
     for _ in 0..random.below(40) {
-        let code = random.between(1, 11) as u8;
+        let code = random.between(1, 12) as u8;
         let room = &mut bytes[at..length - 1];
         let answer = if code == BLOCK {
             let (count, words) = generate::block(random);
@@ -203,7 +202,29 @@ fn cases(command: &Command, room: usize) -> Vec<String> {
         let sign = if value.is_sign_negative() { "-" } else { "+" };
         cases.push(case(code, format!("{sign}{:?}", value.classify())));
     }
+    if code == BASEMENT {
+        cases.extend(hinge(command).map(|text| case(code, text)));
+    }
     cases
+}
+
+/// The nearest hinge of a basement member whose place is in range: its place and its id.
+fn hinge(command: &Command) -> Option<String> {
+    let id = match command.values[1] {
+        id @ (0 | 255 | 256) => id.to_string(),
+        1..=254 => "between".to_string(),
+        _ => "too wide".to_string(),
+    };
+    let outcome = match command.at_fault() {
+        None => "no 5",
+        Some(1) => "5",
+        Some(_) => return None,
+    };
+    Some(hinge_case(outcome, command.values[0], &id))
+}
+
+fn hinge_case(outcome: &str, place: i64, id: &str) -> String {
+    format!("{outcome}, place {place}, id {id}")
 }
 
 const FEWER: &str = "too few words";
@@ -301,8 +322,22 @@ fn wanted() -> Vec<String> {
         }
     }
     wanted.extend(wanted_of_blocks().iter().map(|text| case(BLOCK, text)));
+    wanted.extend(wanted_of_hinges().iter().map(|text| case(BASEMENT, text)));
     for sort in ["Zero", "Subnormal", "Normal", "Infinite", "Nan"] {
         wanted.extend(["+", "-"].map(|sign| case(SOIL, format!("{sign}{sort}"))));
+    }
+    wanted
+}
+
+fn wanted_of_hinges() -> Vec<String> {
+    let mut wanted = Vec::new();
+    for id in ["0", "255", "between"] {
+        let at_wall = if id == "0" { "no 5" } else { "5" };
+        wanted.push(hinge_case("no 5", 0, id));
+        wanted.push(hinge_case(at_wall, 1, id));
+    }
+    for place in [0, 1] {
+        wanted.extend(["256", "too wide"].map(|id| hinge_case("5", place, id)));
     }
     wanted
 }

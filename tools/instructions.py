@@ -4,8 +4,8 @@
 usage: python3 tools/instructions.py ARCHIVE [OLDER]    at the top of the repository
 
 ARCHIVE is a libcapacity_c.a (`rt lib` in crates/capacity_c makes crates/capacity_c/out/libcapacity_c.a); with OLDER, that of an older
-commit, its counts stand first and the ratio last. The jobs have settings, two joints, a wall base, a soil, and then the commands, with
-operands drawn from one seed. Needs gcc and valgrind; writes to target/instructions alone.
+commit, its counts stand first and the ratio last, without basement members, which it may not know. The jobs have settings, two joints, a
+wall base, a soil, and then the commands, with operands drawn from one seed. Needs gcc and valgrind; writes to target/instructions alone.
 """
 import os
 import random
@@ -31,8 +31,8 @@ int main(int count, char **names) {
 """
 
 
-def jobs():
-    """The job of each kind."""
+def jobs(alone):
+    """The job of each kind; basement members where one archive stands alone."""
     draw = random.Random(5)
 
     def u(value):
@@ -69,6 +69,9 @@ def jobs():
         depths = struct.pack(">HHH", draw.randint(0, 1000), draw.randint(0, 1000), draw.randint(1000, 2000))
         return b"\x0a" + bytes([draw.randint(0, 2)]) + depths + bytes([draw.randint(0, 1)])
 
+    def basement():
+        return b"\x0c" + draw.choice([b"\x00\x01", b"\x00\x02", b"\x01\x00"]) + (signed() + size()) * 2 + sizes(2)
+
     kinds = {
         "column": lambda: b"\x03" + member() + sizes(6),
         "beam": lambda: b"\x04" + member() + sizes(4) + signed() + sizes(2),
@@ -87,6 +90,8 @@ def jobs():
     yield "block of 50", head + b"".join(b"\x0b\x32" + b"".join(storey() for _ in range(50)) for _ in range(20)) + b"\x00"
     each = list(kinds.values())
     yield "even mix", head + b"".join(each[n % 9]() for n in range(1000)) + b"\x00"
+    if alone:
+        yield "basement member", head + b"".join(basement() for _ in range(1000)) + b"\x00"
 
 
 def counted(program, call, job):
@@ -102,7 +107,7 @@ def main():
         file.write(CALLER)
     for n, archive in enumerate(archives):
         subprocess.run(["gcc", "-O2", "-I", "crates/capacity_c/include", "-o", f"{WORK}/caller{n}", f"{WORK}/caller.c", archive], check=True)
-    for name, data in jobs():
+    for name, data in jobs(len(archives) == 1):
         with open(f"{WORK}/job", "wb") as file:
             file.write(data)
         line = [name]

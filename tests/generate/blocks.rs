@@ -6,9 +6,9 @@ use super::faults::{count_out_of_range, put};
 use super::values::Random;
 use super::{valid, Mix, Writer, BLOCK, MOST_COMMANDS, MOST_SETS, SET};
 
-/// How often each of the commands 02 to 0B is drawn: without walls, and mostly walls.
-const NO_WALLS: Mix = Mix([2, 1, 1, 2, 0, 0, 1, 2, 1, 0]);
-const WALLS: Mix = Mix([1, 1, 1, 1, 3, 3, 1, 1, 1, 1]);
+/// How often each of the commands 02 to 0C is drawn: without walls, and mostly walls.
+const NO_WALLS: Mix = Mix([2, 1, 1, 2, 0, 0, 1, 2, 1, 0, 1]);
+const WALLS: Mix = Mix([1, 1, 1, 1, 3, 3, 1, 1, 1, 1, 1]);
 
 /// The count of a block, often at the ends of its range.
 pub fn count(random: &mut Random) -> usize {
@@ -51,7 +51,7 @@ pub fn block_at_limit(random: &mut Random) -> Vec<u8> {
 }
 
 /// The commands of a job, as many as lie between two numbers, without its end.
-fn commands(random: &mut Random, least: usize, most: usize, mix: &Mix) -> Vec<u8> {
+pub fn commands(random: &mut Random, least: usize, most: usize, mix: &Mix) -> Vec<u8> {
     let count = random.between(least as u64, most as u64) as usize;
     let mut job = valid(random, count, mix);
     job.pop();

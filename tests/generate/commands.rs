@@ -5,7 +5,7 @@
 use super::blocks::count;
 use super::faults::{count_out_of_range, one_of, operands, Operand};
 use super::values::{Random, LIMIT};
-use super::{MOST_SETS, STOREY};
+use super::{BASEMENT, MOST_SETS, STOREY};
 use crate::reference::Command;
 use Operand::{Id, Signed, SoilValue, Unsigned};
 
@@ -51,7 +51,7 @@ pub fn block(random: &mut Random) -> (u32, Vec<u32>) {
     (count, words)
 }
 
-/// A command of the byte `code`, 00 to 0A. At least half of them are in range.
+/// A command of the byte `code`, 00 to 0A or 0C. At least half of them are in range.
 pub fn command(random: &mut Random, code: u8) -> Command {
     let operands = operands(code);
     let mut values = in_range(random, code, &operands);
@@ -74,6 +74,7 @@ fn in_range(random: &mut Random, code: u8, operands: &[Operand]) -> Vec<i64> {
     match &mut values[..] {
         [_, _, j, j0, ..] if code == 7 && *j > *j0 => std::mem::swap(j, j0),
         [kind, value, _] if code == 8 => *value = allowed(random, *kind),
+        [1, id, ..] if code == BASEMENT => *id = 0,
         _ => (),
     }
     values
@@ -128,7 +129,7 @@ fn one_too_wide(random: &mut Random, operands: &[Operand], values: &mut [i64]) {
     }
 }
 
-/// Puts J above J0 in a storey, or any bits as the value of a soil.
+/// Puts J above J0 in a storey, any bits as the value of a soil, or a basement member with an id at a wall.
 fn break_relation(random: &mut Random, code: u8, values: &mut [i64]) {
     match values {
         [_, _, j, j0, ..] if code == 7 => {
@@ -142,6 +143,10 @@ fn break_relation(random: &mut Random, code: u8, values: &mut [i64]) {
             } else {
                 near_a_turn(random)
             })
+        }
+        [place, id, ..] if code == BASEMENT => {
+            *place = 1;
+            *id = one_of(random, 1, 255) as i64;
         }
         _ => (),
     }

@@ -2,7 +2,7 @@
 //! Assumes of a command that its bytes are whole.
 
 use super::values::{Random, LIMIT};
-use super::{BLOCK, MOST_SETS, SET, STOREY};
+use super::{BASEMENT, BLOCK, MOST_SETS, SET, STOREY};
 
 /// An operand of so many bytes with the least and the greatest number in range. An id has no other numbers, a soil value depends
 /// on its kind.
@@ -49,6 +49,7 @@ pub fn operands(code: u8) -> Vec<Operand> {
             Unsigned(2, 1000, 2000),
             YES_NO,
         ],
+        BASEMENT => vec![YES_NO, Id, Signed, AMOUNT, Signed, AMOUNT, AMOUNT, AMOUNT],
         _ => Vec::new(),
     }
 }
@@ -102,7 +103,8 @@ pub fn one_of(random: &mut Random, first: u64, last: u64) -> u64 {
 }
 
 /// Puts faults into a command in range: one operand or two out of range, or the relation broken, alone or with an operand out of
-/// range; in a footing often the flags alone; in a block in one set or two, now and then in the count. A command without operands stays.
+/// range; in a footing often the flags alone, in a basement member the place; in a block in one set or two, now and then in the count. A
+/// command without operands stays.
 pub fn put(random: &mut Random, command: &mut [u8]) {
     if command[0] == BLOCK {
         return put_in_block(random, command);
@@ -111,14 +113,16 @@ pub fn put(random: &mut Random, command: &mut [u8]) {
     let mut ranged: Vec<usize> = (0..operands.len())
         .filter(|&place| operands[place].has_range())
         .collect();
-    if command[0] == 9 && random.one_in(4) {
-        ranged = vec![operands.len() - 1];
+    match command[0] {
+        9 if random.one_in(4) => ranged = vec![operands.len() - 1],
+        BASEMENT if random.one_in(4) => ranged = vec![0],
+        _ => (),
     }
-    let related = matches!(command[0], 7 | 8) && random.one_in(2);
+    let related = matches!(command[0], STOREY | 8 | BASEMENT) && random.one_in(2);
     if related {
         break_relation(random, command);
         // Another number there could mend the relation.
-        ranged.retain(|&place| !matches!((command[0], place), (7, 2 | 3)));
+        ranged.retain(|&place| !matches!((command[0], place), (STOREY, 2 | 3) | (BASEMENT, 0)));
     }
     let count = random.below(2) as usize + usize::from(!related);
     for _ in 0..count.min(ranged.len()) {
@@ -157,25 +161,37 @@ pub fn count_out_of_range(random: &mut Random) -> u8 {
     }
 }
 
-/// Puts J above J0 in a storey, or a value that its kind does not allow in a soil.
+/// Puts J above J0 in a storey, a value that its kind does not allow in a soil, or an id at a wall in a basement member.
 fn break_relation(random: &mut Random, command: &mut [u8]) {
-    if command[0] == 7 {
-        let order = random.below(32);
-        let j0 = random.between(1, u64::from(u32::MAX - 1) >> order);
-        let j = one_of(random, j0 + 1, u64::from(u32::MAX)) as u32;
-        command[9..13].copy_from_slice(&j.to_be_bytes());
-        command[13..17].copy_from_slice(&(j0 as u32).to_be_bytes());
-    } else {
-        let top = [2.0f32, 1000.0][usize::from(command[1])].to_bits();
-        let infinity = f32::INFINITY.to_bits();
-        let [first, last] = match random.below(4) {
-            0 => [top + 1, infinity - 1],
-            1 => [infinity, i32::MAX as u32],
-            2 => [1 << 31, u32::MAX],
-            // A granular soil with a value for a cohesive one.
-            _ => [top + 1, 1000f32.to_bits().max(top + 1)],
-        };
-        let value = one_of(random, u64::from(first), u64::from(last)) as u32;
-        command[2..6].copy_from_slice(&value.to_be_bytes());
+    match command[0] {
+        STOREY => {
+            let order = random.below(32);
+            let j0 = random.between(1, u64::from(u32::MAX - 1) >> order);
+            let j = one_of(random, j0 + 1, u64::from(u32::MAX)) as u32;
+            command[9..13].copy_from_slice(&j.to_be_bytes());
+            command[13..17].copy_from_slice(&(j0 as u32).to_be_bytes());
+        }
+        BASEMENT => {
+            command[1] = 1;
+            command[2] = one_of(random, 1, 255) as u8;
+        }
+        _ => {
+            let value = not_allowed(random, command[1]);
+            command[2..6].copy_from_slice(&value.to_be_bytes());
+        }
     }
+}
+
+/// The bits of a soil value that its kind does not allow.
+fn not_allowed(random: &mut Random, kind: u8) -> u32 {
+    let top = [2.0f32, 1000.0][usize::from(kind)].to_bits();
+    let infinity = f32::INFINITY.to_bits();
+    let [first, last] = match random.below(4) {
+        0 => [top + 1, infinity - 1],
+        1 => [infinity, i32::MAX as u32],
+        2 => [1 << 31, u32::MAX],
+        // A granular soil with a value for a cohesive one.
+        _ => [top + 1, 1000f32.to_bits().max(top + 1)],
+    };
+    one_of(random, u64::from(first), u64::from(last)) as u32
 }

@@ -88,6 +88,7 @@ declare! {
         u: u32, p: u32, flags: u32
     }
     Detail eak_write_detail { place: u32, xu: u32, xy: u32, mu: u32, lap: u32 }
+    Basement eak_write_basement { place: u32, id: u32, vv: i32, ve: u32, mv: i32, me: u32, vr: u32, mr: u32 }
 }
 
 extern "C" {
@@ -157,7 +158,8 @@ pub fn write_command(command: &Command, bytes: &mut [u8]) -> Written {
             let values: Vec<u32> = values.iter().map(|&value| u32::of(value)).collect();
             block(values[0], &values[1..], bytes)
         }
-        _ => unreachable!("a command of 00 to 0B"),
+        12 => Basement::of(values).write(bytes),
+        _ => unreachable!("a command of 00 to 0C"),
     };
     found.into()
 }

@@ -97,7 +97,7 @@ impl Joint {
         )
     }
 
-    fn coefficient(&self, settings: &Settings) -> Coefficient {
+    pub fn coefficient(&self, settings: &Settings) -> Coefficient {
         Coefficient::new(
             settings.gj,
             u64::from(self.rb.min(self.rc)),
@@ -159,6 +159,11 @@ impl Coefficient {
     /// v + sign·a·e, over `under`.
     fn sum(&self, (v, e): (i64, i64), sign: i64) -> i64 {
         v * self.under as i64 + sign * e * self.over as i64
+    }
+
+    /// v + sign·a·e, up.
+    pub fn sum_up(&self, pair: (i64, i64), sign: i64) -> i64 {
+        -(-self.sum(pair, sign)).div_euclid(self.under as i64)
     }
 
     /// v + sign·a·e, down.
@@ -327,7 +332,7 @@ impl Operands for NoHinges {
 /// The latest wall: coefficient, base shear (up) and moment strength.
 #[derive(Clone, Copy, Default)]
 pub struct Wall {
-    a: Coefficient,
+    pub a: Coefficient,
     shear: u64,
     mr: u64,
 }

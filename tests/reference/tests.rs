@@ -1,5 +1,8 @@
 //! Tries the calls where a listing does not show them: short and long slices, the three numbers of a run, the operand at fault, take-down,
-//! writing, printing. Where q governs, at equality and on both sides of it; footings with each of their flags; and storeys in blocks.
+//! writing, printing. Where q governs, at equality and on both sides of it; footings with each of their flags; storeys in blocks; and
+//! basement members.
+
+mod basement;
 
 use super::members::Coefficient;
 use super::{at_fault, commands, layout, read_command, write_block, write_command};
@@ -89,7 +92,7 @@ fn the_order_of_trial_at_the_limit() {
     assert_eq!(then(&[0]), Ok(0));
     assert_eq!(then(&[]), refusal(1, at, 0));
     assert_eq!(then(&[0, 0]), refusal(3, at + 1, 0));
-    assert_eq!(then(&[12]), refusal(2, at, 0));
+    assert_eq!(then(&[13]), refusal(2, at, 0));
     assert_eq!(then(&[1, 0, 0]), refusal(1, at, 0));
     assert_eq!(then(&JOB[..7]), refusal(8, at, 0));
     assert_eq!(then(&[8, 9, 0, 0, 0, 0, 0]), refusal(8, at, 0));
@@ -490,8 +493,8 @@ fn each_operand_of_a_block_is_named() {
 
 // The operand at fault.
 
-/// The widths of each command's operands, from 01 to 0A.
-const OPERANDS: [&[usize]; 10] = [
+/// The widths of each command's operands, from 01 to 0C; a block has none here.
+const OPERANDS: [&[usize]; 12] = [
     &[2; 3],
     &[1, 4, 4, 4],
     &[4; 7],
@@ -502,6 +505,8 @@ const OPERANDS: [&[usize]; 10] = [
     &[1, 4, 1],
     &[4, 4, 4, 4, 4, 4, 4, 4, 4, 4, 4, 4, 4, 4, 1],
     &[1, 2, 2, 2, 1],
+    &[],
+    &[1, 1, 4, 4, 4, 4, 4, 4],
 ];
 
 /// A command in range with each operand 0 where 0 is in range, else the least; `set` are the places and numbers that differ.
@@ -562,7 +567,7 @@ fn a_fault_has_the_byte_at_its_offset() {
     assert_eq!(fault(&JOB[..25]), at(1, 25, 0));
     assert_eq!(fault(&JOB[..24]), at(1, 16, 10));
     assert_eq!(fault(&[255]), at(2, 0, 255));
-    assert_eq!(fault_of(&[vec![12]]), at(2, 7, 12));
+    assert_eq!(fault_of(&[vec![13]]), at(2, 7, 13));
     assert_eq!(fault_of(&[vec![0, 255]]), at(3, 8, 255));
     assert_eq!(fault_of(&[vec![0]]), at(3, 8, 0));
     assert_eq!(fault(&[0, 9]), at(4, 0, 0));
@@ -576,14 +581,14 @@ fn a_fault_has_the_byte_at_its_offset() {
 
 #[test]
 fn each_operand_is_named() {
-    for code in 2..=10 {
+    for code in 2..=12 {
         for (place, &width) in OPERANDS[usize::from(code) - 1].iter().enumerate() {
             // Above every limit, of an i32 too; as an f32 a NaN. J0 has no limit above, an id none at all.
             let number = match (code, place) {
                 (7, 3) => 0,
                 _ => u32::MAX >> 1 >> (32 - 8 * width),
             };
-            let id = matches!((code, place), (2, 0) | (5, 1 | 2));
+            let id = matches!((code, place), (2, 0) | (5, 1 | 2) | (12, 1));
             if !id {
                 assert_eq!(operand(code, &[(place, number)]), place as u32);
             }
@@ -747,7 +752,7 @@ fn five_is_tried_before_eleven_and_both_change_nothing() {
 /// reader's finds, and a command in range is written as it was read.
 #[test]
 fn the_writer_and_the_reader_have_the_same_ranges() {
-    for code in 1..=10 {
+    for code in (1..=10).chain([12]) {
         for (place, (_, least, most)) in layout(code).into_iter().enumerate() {
             for number in [least - 1, least, most, most + 1] {
                 let bytes = command(code, &[(place, number as u32)]);

@@ -1,5 +1,5 @@
-//! Requests No. 2 and 7 of document 02: one command written from its values; and the commands that bytes hold, by their values.
-//! Assumes that a command to be written is one of 00 to 0B and has as many values as the documents give it operands; after a count out
+//! Requests No. 2, 7 and 9 of document 02: one command written from its values; and the commands that bytes hold, by their values.
+//! Assumes that a command to be written is one of 00 to 0C and has as many values as the documents give it operands; after a count out
 //! of range a block may have any.
 
 #![allow(dead_code)]
@@ -35,6 +35,8 @@ const OVERSTRENGTH: Operand = (2, 100, 200);
 const DEPTH: Operand = (2, 0, 1000);
 const ID: Operand = (1, 0, 255);
 const YES_NO: Operand = (1, 0, 1);
+/// Of the nearest hinge: a joint or the latest wall.
+const PLACE: Operand = (1, 0, 1);
 /// Of the sets of a block.
 const COUNT: Operand = (1, 1, 64);
 /// By its bits; which of them are in range is told by the soil's kind.
@@ -59,7 +61,8 @@ pub fn layout(code: u8) -> Vec<Operand> {
         ]
         .concat(),
         DETAIL => vec![(1, 0, 2), DEPTH, DEPTH, (2, 1000, 2000), YES_NO],
-        _ => unreachable!("a command of 00 to 0A"),
+        BASEMENT => vec![PLACE, ID, SIGNED, AMOUNT, SIGNED, AMOUNT, AMOUNT, AMOUNT],
+        _ => unreachable!("a command of 00 to 0A, or 0C"),
     }
 }
 
@@ -104,8 +107,8 @@ impl Command {
     }
 }
 
-/// The first value out of range; where each is within its own, J of a storey whose J is above J0, or the value of a soil that its kind
-/// does not allow.
+/// The first value out of range; where each is within its own, J of a storey whose J is above J0, the value of a soil that its kind
+/// does not allow, or the id of a basement member at a wall that is not 0.
 fn values_at_fault(code: u8, values: &[i64]) -> Option<usize> {
     let layout = layout(code);
     assert_eq!(values.len(), layout.len(), "a value an operand");
@@ -114,6 +117,7 @@ fn values_at_fault(code: u8, values: &[i64]) -> Option<usize> {
     outside.or(match (code, values) {
         (STOREY, [_, _, j, j0, ..]) if j > j0 => Some(2),
         (SOIL, &[kind, bits, _]) if soil_at_fault(kind, bits) => Some(1),
+        (BASEMENT, [1, id, ..]) if *id != 0 => Some(1),
         _ => None,
     })
 }
@@ -194,6 +198,7 @@ pub fn read_command(bytes: &[u8]) -> Option<Command> {
         STOREY => Storey::read(fixed(operands)).values(),
         SOIL => SoilGiven::read(fixed(operands)).values(),
         FOOTING => Footing::read(fixed(operands)).values(),
+        BASEMENT => BasementMember::read(fixed(operands)).values(),
         _ => Detail::read(fixed(operands)).values(),
     };
     Some(Command { code, values })

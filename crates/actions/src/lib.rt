@@ -1,5 +1,5 @@
-// An action V ± a·E, a non-seismic value plus or minus the coefficient times a seismic one, unrounded: `exact::Sum` rounds it. The crates
-// `basement` and `footing` are over it.
+// An action V ± a·E, a non-seismic value plus or minus the coefficient times a seismic one, unrounded: `exact::Sum` rounds it. A footing, a
+// basement member and a beam (`members`) take theirs from here.
 #![tactic(auto)]
 
 ghost use Rattle.std.specs.Prelude.{◌≡◌, pos, ◌*ℤ◌};

@@ -4,7 +4,7 @@
 ghost use Rattle.std.specs.Prelude.{◌≡◌, ◌≤◌, pos};
 ghost use Rattle.coefficient.specs.Coefficient.{fraction};
 ghost use Rattle.actions.specs.Ranges.{ActionRange};
-ghost use Rattle.basement.specs.Basement.{basement_row};
+ghost use Rattle.basement.specs.Basement.{basement_row, basement_shear_row, basement_moment_row};
 
 use actions::Sign;
 use claims::Row;
@@ -14,7 +14,7 @@ use coefficient::Quotient;
 // at a joint; 1: it is in the latest wall.
 #[derive(Clone, Copy)]
 pub struct Basement {
-    // As it will be given, before it is tested: the operand of a command, kept at 32 bits as a detail's place is.
+    // As it is given, before it is tested: the operand of a command, kept at 32 bits as a detail's place is.
     pub place: u32,
     pub nonseismic_shear: i32,
     pub seismic_shear: u32,
@@ -24,9 +24,8 @@ pub struct Basement {
     pub moment_strength: u32,
 }
 
-// B.2 [4]: a value of a basement member, V ± a·E, against its strength: upper and lower, and the bit where one of them exceeds it. A
-// shear has bit 1, a moment bit 2.
-pub fn basement_row(bit: u64, a: Quotient, steady: i32, seismic: u32, strength: u32) -> Row
+// B.2 [4]: a value of a basement member, V ± a·E, against its strength: upper and lower, and the bit where one of them exceeds it.
+fn basement_row(bit: u64, a: Quotient, steady: i32, seismic: u32, strength: u32) -> Row
     requires bit { bit ≤ 2 }
     requires range { ActionRange a steady (pos seismic) }
     ensures { result ≡ basement_row bit (fraction a) steady seismic strength }
@@ -41,5 +40,25 @@ pub fn basement_row(bit: u64, a: Quotient, steady: i32, seismic: u32, strength: 
         word5: 0,
         word6: 0,
         verdict: claims::word(claims::flagged(bit, exceeded)),
+    }
+}
+
+impl Basement {
+    // The shear against VR, with a of the nearest possible hinge: bit 1.
+    pub fn shear_row(self, a: Quotient) -> Row
+        requires { ActionRange a self.nonseismic_shear (pos self.seismic_shear) }
+        ensures { result ≡ basement_shear_row (fraction a) self }
+    {
+        let (steady, seismic) = (self.nonseismic_shear, self.seismic_shear);
+        basement_row(1, a, steady, seismic, self.shear_strength)
+    }
+
+    // The moment against MR: bit 2.
+    pub fn moment_row(self, a: Quotient) -> Row
+        requires { ActionRange a self.nonseismic_moment (pos self.seismic_moment) }
+        ensures { result ≡ basement_moment_row (fraction a) self }
+    {
+        let (steady, seismic) = (self.nonseismic_moment, self.seismic_moment);
+        basement_row(2, a, steady, seismic, self.moment_strength)
     }
 }

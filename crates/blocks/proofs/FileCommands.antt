@@ -11,7 +11,7 @@ use Rattle.layout.specs.Layouts.{known, operands_width}
 use Rattle.layout.specs.Operands.{byte_at}
 use Rattle.walls.specs.declared.Storey.{Storey}
 use Rattle.format.specs.declared.Command.{Command}
-use Rattle.format.specs.declared.Command.TheVariants.{Finish as finish, Settings as settings, Joint as joint, Column as column, Beam as beam, Hingeless as hingeless, WallBase as wall_base, Storey as storey, Soil as soil, Footing as footing, Detail as detail}
+use Rattle.format.specs.declared.Command.TheVariants.{Finish as finish, Settings as settings, Joint as joint, Column as column, Beam as beam, Hingeless as hingeless, WallBase as wall_base, Storey as storey, Soil as soil, Footing as footing, Detail as detail, Basement as basement}
 use Rattle.format.specs.Commands.{byte_of}
 use Rattle.format.specs.Reading.{command_at}
 use Rattle.format.proofs.CommandRead.{byte_read as command-byte}
@@ -58,6 +58,7 @@ no_block (storey s) = refl
 no_block (soil s) = refl
 no_block (footing f) = refl
 no_block (detail d) = refl
+no_block (basement id m) = refl
 
 -- a command of a file that is one by itself is read as such
 pub one_read : (job : List ℕ) (at : ℕ) (c : Command) → file_command_at job at ≡ one c → command_at job at ≡ c

@@ -1,5 +1,5 @@
 -- A block of storeys. 02, No. 7: "New command 0B has a count (u8, 1 to 64) and then that many sets of storey operands, 24 bytes each."
-use Rattle.std.specs.Prelude.{Bool, true, ◌&&◌, cond, List, [], ◌∷◌, ℕ, zero, suc, ◌+◌, eqb, Option, Some, None}
+use Rattle.std.specs.Prelude.{Bool, true, ◌&&◌, cond, List, [], ◌∷◌, ℕ, zero, suc, ◌+◌, ◌/◌, eqb, length, Option, Some, None}
 use Rattle.quantity.specs.Range.{within}
 use Rattle.layout.specs.Forms.{to}
 use Rattle.layout.specs.Operands.{operand, byte_at}
@@ -32,6 +32,10 @@ storeys_at (suc n) job at = storey_at job at ∷ storeys_at n job (at + 24)
 -- the storeys of the block at an offset
 abbrev pub sets_of : List ℕ → ℕ → List Storey
 sets_of job at = storeys_at (count_at job at) job (at + 2)
+
+-- the storeys of sets that stand one after the other, of their bytes alone
+abbrev pub storeys_in : List ℕ → List Storey
+storeys_in sets = storeys_at (length sets / 24) sets 0
 
 -- each set in range: each operand in its own range, and J ≤ J0
 unfoldable pub all_in_range : List Storey → Bool

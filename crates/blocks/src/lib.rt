@@ -1,8 +1,8 @@
 // A block of storeys: the range of its count, and the operand at fault among its sets. 02, No. 7.
 #![tactic(auto)]
 
-ghost use Rattle.std.specs.Prelude.{◌≡◌, ◌*◌, ◌/◌, ◌≤◌, length};
-ghost use Rattle.blocks.specs.Sets.{count_in_range, storeys_at, operand_named};
+ghost use Rattle.std.specs.Prelude.{◌≡◌, ◌*◌, ◌≤◌, length};
+ghost use Rattle.blocks.specs.Sets.{count_in_range, storeys_in, operand_named};
 
 use format::{CommandBytes, Operands};
 use layout::Kind;
@@ -29,7 +29,7 @@ pub fn count_in_range(count: usize) -> bool
 // The operand at fault among sets, counted from 1, six a set; none where every set is in range.
 pub fn operand_named(sets: &[u8]) -> Option<u32>
     requires { length sets.now ≤ 24 * 64 }
-    ensures { result ≡ operand_named (storeys_at (length sets.now / 24) sets.now 0) }
+    ensures { result ≡ operand_named (storeys_in sets.now) }
 {
     let (chunks, _) = sets.as_chunks::<SET>();
     for (set, operands) in chunks.iter().enumerate() {

@@ -1,7 +1,7 @@
 -- The words that `run` gives for small jobs, by computation: each of the bits 1, 2, 4, 8, 32 is clear where a demand equals its
 -- strength and set one unit beyond it (a side over 2 is passed one below it alone); bits 16, 64 and 128 at their bounds. So the
 -- claims of demand 3 speak of checks that pass and of checks that fail. 01, "Rows and verdict bits". And a member before and after
--- its joint is given again: 02, No. 1. Assumes nothing.
+-- its joint is given again: 02, No. 1; and both bits of a basement member, under a joint and under a wall: No. 9. Assumes nothing.
 use mathlib.Core.Path.{◌≡◌, refl}
 use mathlib.Core.List.{List, [], ◌∷◌, ◌++◌}
 use Prim.Native.Nat.{ℕ, ◌*◌}
@@ -23,6 +23,7 @@ use Rattle.members.specs.Column.{column_row}
 use Rattle.members.specs.Beam.{beam_row}
 use Rattle.members.specs.Hingeless.{hingeless_row}
 use Rattle.members.specs.Detail.{detail_row}
+use Rattle.basement.specs.Basement.{basement_row}
 use Rattle.walls.specs.Base.{base_row, base_row_from}
 use Rattle.walls.specs.Storey.{storey_row, storey_row_from}
 use Rattle.footing.specs.Rows.{footing_row, base_resistance}
@@ -89,6 +90,12 @@ joint seismic = 0x02 ∷ 0x09 ∷ 0x00 ∷ 0x00 ∷ 0x00 ∷ 0x64 ∷ 0x00 ∷ 0
 abbrev hingeless : List ℕ
 hingeless = 0x05 ∷ 0x00 ∷ 0x00 ∷ 0x01 ∷ 0xf4 ∷ 0x09 ∷ 0x09 ∷ 0x00 ∷ 0x00 ∷ 0x03 ∷ 0xe8 ∷ 0x00 ∷ 0x00 ∷ 0x03 ∷ 0xe8 ∷ zeros 8
 
+-- place and id; VV −1, VE 2; MV 1, ME 2; VR and MR in a byte
+abbrev basement : (place id shear moment : ℕ) → List ℕ
+basement place id shear moment =
+    0x0c ∷ place ∷ id ∷ 0xff ∷ 0xff ∷ 0xff ∷ 0xff ∷ 0x00 ∷ 0x00 ∷ 0x00 ∷ 0x02 ∷ 0x00 ∷ 0x00 ∷ 0x00 ∷ 0x01 ∷ 0x00 ∷ 0x00 ∷ 0x00 ∷ 0x02
+    ∷ 0x00 ∷ 0x00 ∷ 0x00 ∷ shear ∷ 0x00 ∷ 0x00 ∷ 0x00 ∷ moment ∷ []
+
 -- granular, of tangent 0.5; sensitive or not
 abbrev soil : ℕ → List ℕ
 soil sensitive = 0x08 ∷ 0x00 ∷ 0x3f ∷ 0x00 ∷ 0x00 ∷ 0x00 ∷ sensitive ∷ []
@@ -139,6 +146,10 @@ beam_row_words upper lower strength verdict = pos 7 ∷ pos 4 ∷ upper ∷ lowe
 -- that of a member without hinges, whose VR is 0
 abbrev hingeless_row_words : ℕ → (upper lower : ℤ) → List ℤ
 hingeless_row_words offset upper lower = pos offset ∷ pos 5 ∷ upper ∷ lower ∷ pos 0 ∷ pos 0 ∷ pos 0 ∷ pos 1 ∷ []
+
+-- those of a basement member
+abbrev basement_row_words : ℕ → (upper lower : ℤ) → (strength verdict : ℕ) → List ℤ
+basement_row_words offset upper lower strength verdict = pos offset ∷ pos 12 ∷ upper ∷ lower ∷ pos strength ∷ pos 0 ∷ pos 0 ∷ pos verdict ∷ []
 
 -- on a slice of zeros with just room for them, run answers the number of these rows, so many failed and so many checks failed, and
 -- writes them
@@ -234,6 +245,17 @@ lengths = settings ++ wall_base 0xa0 ++ wall_base 0xa1 ++ finish
 abbrev joint_again : List ℕ
 joint_again = settings ++ joint 0x64 ++ hingeless ++ joint 0 ++ hingeless ++ finish
 
+-- bit 1 by minus lower and bit 2 by upper, under a joint of a = 1.75: −1 − 3.5 is −5 and 1 + 3.5 is 5; strengths 5, then 4
+abbrev basement_equal : List ℕ
+basement_equal = settings ++ joint 0x50 ++ basement 0 9 5 5 ++ finish
+
+abbrev basement_beyond : List ℕ
+basement_beyond = settings ++ joint 0x50 ++ basement 0 9 4 4 ++ finish
+
+-- under a wall of a = 3.25, behind a joint that is not its own: −1 ± 6.5 and 1 ± 6.5
+abbrev basement_under_wall : List ℕ
+basement_under_wall = settings ++ joint 0x50 ++ wall_base 0xa1 ++ basement 1 0 8 7 ++ finish
+
 -- ---- their rows
 
 pub record Edges : Type 0 where
@@ -262,11 +284,14 @@ pub record Edges : Type 0 where
   pub lap_at_2_only : Gives laps (row 7 10 0 175000 0 0 0 0 ∷ row 16 10 0 175000 0 0 0 0 ∷ row 25 10 0 175000 0 0 0 64 ∷ row 34 10 0 175000 0 0 0 0 ∷ []) 1 1
   pub four_thicknesses : Gives lengths (row 7 6 2925000 3000000 5000000 5000000 0 128 ∷ row 32 6 2925000 3000000 5000000 5000000 0 0 ∷ []) 1 1
   pub joint_again_lem : Gives joint_again (hingeless_row_words 21 (pos 5600) (negsuc 5599) ∷ hingeless_row_words 58 (pos 14000) (negsuc 13999) ∷ []) 2 2
+  pub basement_equal_lem : Gives basement_equal (basement_row_words 21 (pos 3) (negsuc 4) 5 0 ∷ basement_row_words 21 (pos 5) (negsuc 2) 5 0 ∷ []) 0 0
+  pub basement_beyond_lem : Gives basement_beyond (basement_row_words 21 (pos 3) (negsuc 4) 4 1 ∷ basement_row_words 21 (pos 5) (negsuc 2) 4 2 ∷ []) 2 2
+  pub basement_of_wall : Gives basement_under_wall (row 21 6 2925000 3000000 5000000 5000000 0 0 ∷ basement_row_words 46 (pos 6) (negsuc 7) 8 0 ∷ basement_row_words 46 (pos 8) (negsuc 5) 7 2 ∷ []) 1 1
 
 pub edges : Edges
 unfolding
     run_of rows_after verdict_at row_failed checks_of verdict_sum rows_failed checks_failed ones_in ones placed listed listed_by all_rows rows_of rows_with tests_at command_tests file_command_at width_at too_many misplaced known known_in forms_of forms_in operands_width width_of_all width command_at command_of read_operands number number_after in_range all_in_range
-    form_in_range related within within_signed signed32 bits32 next absent column_row beam_row hingeless_row detail_row base_row base_row_from storey_row storey_row_from footing_row base_resistance coefficient_of cap_governs smaller up down up_ℤ down_ℤ
+    form_in_range related within within_signed signed32 bits32 next absent column_row beam_row hingeless_row basement_row detail_row base_row base_row_from storey_row storey_row_from footing_row base_resistance coefficient_of cap_governs smaller up down up_ℤ down_ℤ
     first_from least_root soil_allowed soil_holding value_allowed kind_known top_of factor_of allowed cut taken take_down tangent_of accepted refused of_bits
 edges =
     record {
@@ -294,4 +319,7 @@ edges =
       lap_at_2_only = record { answer = refl; words = refl };
       four_thicknesses = record { answer = refl; words = refl };
       joint_again_lem = record { answer = refl; words = refl };
+      basement_equal_lem = record { answer = refl; words = refl };
+      basement_beyond_lem = record { answer = refl; words = refl };
+      basement_of_wall = record { answer = refl; words = refl };
     }

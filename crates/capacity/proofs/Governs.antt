@@ -17,14 +17,14 @@ use Rattle.format.specs.Commands.{byte_of}
 use Rattle.format.specs.declared.Command.TheVariants.{Column as column, Beam as beam, WallBase as wall_base}
 use Rattle.rows.specs.Rows.{rows_with, rows_of, words}
 use Rattle.capacity.specs.Governs.{RunRow, ColumnsHeld, UppersHeld, LowersHeld, BasesHeld}
-use Rattle.capacity.proofs.RowRead.{row_read_lem}
+use Rattle.capacity.proofs.RowRead.{first_row}
 
 -- the row written is the one row that specs/ gives for the command and q
 written : (c : Command) (q : ℕ) (r own : Row) (w : RunRow c q r) → rows_of w.this.context w.this.command ≡ own ∷ [] → r ≡ own
 written c q r own w e =
     let p = w.this in
     sym w.row
-    ∙ row_read_lem w.job w.commands w.is_accepted w.earlier p w.later w.place (byte_of p.command) own (ap (map (words p.offset (byte_of p.command))) e) w.slice w.room
+    ∙ first_row w.job w.commands w.is_accepted w.earlier p w.later w.place w.slice w.room (byte_of p.command) own [] (ap (map (words p.offset (byte_of p.command))) e)
 
 pub column_written : (c : Column) (q : ℕ) (r : Row) → RunRow (column c) q r → r ≡ column_row q c
 unfolding rows_of rows_with

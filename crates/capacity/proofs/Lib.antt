@@ -1,5 +1,5 @@
 -- Demand 3 for a whole job; the numbers of a run; what `run` gives twice and on a longer slice; how large its words are, and their page;
--- joints given again; the words of a storey; where the cap governs; jobs and the calls that write; a block and its storeys singly; its
+-- joints given again; the words of a storey and of a basement member; where the cap governs; jobs and the calls that write; a block and its storeys singly; its
 -- verdicts at their bounds; commands that are none of a few.
 mod Ranges
 mod RowsTrue
@@ -10,6 +10,8 @@ mod Runs
 mod WrittenRun
 pub mod Numbers
 mod RowRead
+mod Nearest
+pub mod Basement
 pub mod SameWords
 pub mod PageOfRun
 pub mod Revised

@@ -30,10 +30,10 @@ pub record ContextRange (h : Context) : Type 0 where
   pub joints : (id : ℕ) (j : Joint) → h.joints id ≡ Some j → JointRange j
   pub wall : (b : WallBase) → h.wall ≡ Some b → in_range (wall_base b) ≡ true
 
-no_some : {A : Type 0} (a : A) → None ≡ Some a → ⊥
+pub no_some : {A : Type 0} (a : A) → None ≡ Some a → ⊥
 no_some a e = cc
 
-same_some : {A : Type 0} (a b : A) → Some a ≡ Some b → a ≡ b
+pub same_some : {A : Type 0} (a b : A) → Some a ≡ Some b → a ≡ b
 same_some a b e = cc
 
 -- ---- what holds stays in range

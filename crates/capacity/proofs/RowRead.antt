@@ -1,14 +1,16 @@
--- A row read off the words that `run` writes: that of a command with one row stands behind those of the commands before it. Assumes
--- nothing.
-use mathlib.Core.Path.{◌≡◌, ap, ◌∙◌}
+-- A row read off the words that `run` writes: it stands behind the rows of the commands before it. Assumes nothing.
+use mathlib.Core.Path.{◌≡◌, sym, ap, ◌∙◌}
 use mathlib.Core.List.{List, [], ◌∷◌, ◌++◌, append_assoc}
-use Prim.Native.Nat.{ℕ, ◌*◌, ◌≤◌}
+use Prim.Native.Nat.{ℕ, ◌+◌, ◌*◌, ◌≤◌}
+use native.Mathlib.Nat.{add-zero}
 use borrow.Author.Tests.{le-leb}
 use lib.IntN.{ℤ}
-use lib.ListN.{length, drop}
+use lib.ListN.{length, drop, length-append}
 use Rattle.claims.specs.declared.Row.{Row}
 use Rattle.rows.specs.Rows.{words}
 use Rattle.rows.specs.Writing.{joined}
+use Rattle.rows.proofs.Memory.{Eights}
+use Rattle.rows.proofs.Laws.{eights_both}
 use Rattle.job.specs.Placed.{Placed, Job, accepted, placed, rows_at, all_rows}
 use Rattle.job.proofs.AlreadyMet.{rows_of_both}
 use Rattle.capacity.specs.Calls.{rows_from, rows_after}
@@ -16,18 +18,30 @@ use Rattle.capacity.specs.DemandThree.{row_read}
 use Rattle.capacity.proofs.Written.{rows_eight, joined_length, joined_append}
 use Rattle.capacity.proofs.Whole.{read_back}
 
--- a command of an accepted job with one row, and a slice with room: the row stands behind those of the commands before it
-module _ (job : List ℕ) (ps : List Placed) (e : placed job ≡ accepted ps) (earlier : List Placed) (p : Placed) (later : List Placed) (q : ps ≡ earlier ++ p ∷ later) where
-  pub row_read_lem : (byte : ℕ) (r : Row) → rows_at p ≡ words p.offset byte r ∷ [] → (m : List ℤ) → 8 * length (all_rows ps) ≤ length m → row_read (rows_after job m) (length (all_rows earlier)) ≡ r
+-- a command of an accepted job, and a slice with room
+module _ (job : List ℕ) (ps : List Placed) (e : placed job ≡ accepted ps) (earlier : List Placed) (p : Placed) (later : List Placed) (q : ps ≡ earlier ++ p ∷ later) (m : List ℤ) (l : 8 * length (all_rows ps) ≤ length m) where
+  -- one of its rows stands behind those of the commands before it and the command's own rows before it
+  pub row_among : (byte : ℕ) (r : Row) (first rest : List (List ℤ)) → Eights first → rows_at p ≡ first ++ words p.offset byte r ∷ rest →
+      row_read (rows_after job m) (length (all_rows earlier) + length first) ≡ r
   unfolding rows_after all_rows
-  row_read_lem byte r s m l =
-      let n = length (all_rows earlier) in
+  row_among byte r first rest eight s =
       let own = words p.offset byte r in
-      let front = joined (all_rows earlier) in
+      let rows_before = all_rows earlier ++ first in
+      let rows_behind = rest ++ all_rows later in
+      let front = joined rows_before in
       let tail = drop (8 * length (all_rows ps)) m in
-      let all : all_rows ps ≡ all_rows earlier ++ (own ∷ all_rows later) = ap all_rows q ∙ rows_of_both earlier (p ∷ later) ∙ ap (λ (x : List (List ℤ)). all_rows earlier ++ (x ++ all_rows later)) s in
-      let split : joined (all_rows ps) ++ tail ≡ front ++ (own ++ (joined (all_rows later) ++ tail)) =
-      ap (λ (x : List (List ℤ)). joined x ++ tail) all ∙ ap (λ (x : List ℤ). x ++ tail) (joined_append (all_rows earlier) (own ∷ all_rows later))
-      ∙ append_assoc front (own ++ joined (all_rows later)) tail ∙ ap (λ (x : List ℤ). front ++ x) (append_assoc own (joined (all_rows later)) tail) in
+      let all : all_rows ps ≡ rows_before ++ (own ∷ rows_behind) =
+      ap all_rows q ∙ rows_of_both earlier (p ∷ later) ∙ ap (λ (x : List (List ℤ)). all_rows earlier ++ (x ++ all_rows later)) s
+      ∙ ap (λ (x : List (List ℤ)). all_rows earlier ++ x) (append_assoc first (own ∷ rest) (all_rows later)) ∙ sym (append_assoc (all_rows earlier) first (own ∷ rows_behind)) in
+      let split : joined (all_rows ps) ++ tail ≡ front ++ (own ++ (joined rows_behind ++ tail)) =
+      ap (λ (x : List (List ℤ)). joined x ++ tail) all ∙ ap (λ (x : List ℤ). x ++ tail) (joined_append rows_before (own ∷ rows_behind))
+      ∙ append_assoc front (own ++ joined rows_behind) tail ∙ ap (λ (x : List ℤ). front ++ x) (append_assoc own (joined rows_behind) tail) in
+      let n = length (all_rows earlier) + length first in
+      let size : length front ≡ 8 * n =
+      joined_length rows_before (eights_both (all_rows earlier) first (rows_eight earlier) eight) ∙ ap (λ (k : ℕ). 8 * k) (length-append (all_rows earlier) first) in
       ap (λ (j : Job). row_read (rows_from j m) n) e ∙ rw (le-leb (8 * length (all_rows ps)) (length m) l) (ap (λ (x : List ℤ). row_read x n) split)
-      ∙ read_back front (joined (all_rows later) ++ tail) n p.offset byte r (joined_length (all_rows earlier) (rows_eight earlier))
+      ∙ read_back front (joined rows_behind ++ tail) n p.offset byte r size
+
+  -- the first of its rows
+  pub first_row : (byte : ℕ) (r : Row) (rest : List (List ℤ)) → rows_at p ≡ words p.offset byte r ∷ rest → row_read (rows_after job m) (length (all_rows earlier)) ≡ r
+  first_row byte r rest s = ap (row_read (rows_after job m)) (sym (add-zero (length (all_rows earlier)))) ∙ row_among byte r [] rest tt s

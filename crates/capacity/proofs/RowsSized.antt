@@ -3,12 +3,17 @@ use Rattle.actions.specs.declared.Sign.TheVariants.{Plus, Minus}
 use mathlib.Core.Path.{◌≡◌, refl}
 use mathlib.Core.Bool.{true}
 use mathlib.Core.List.{[], ◌∷◌}
+use native.Mathlib.Omega.{arith}
 use Rattle.std.specs.Prelude.{Option, None, Some}
+use Rattle.exact.specs.Fraction.{Fraction}
 use Rattle.coefficient.specs.declared.Settings.{Settings}
+use Rattle.coefficient.specs.Coefficient.{Capped}
 use Rattle.claims.specs.Sizes.{AllSized}
 use Rattle.members.specs.declared.Joint.{Joint}
 use Rattle.members.specs.Hingeless.{JointRange, hingeless_row}
 use Rattle.members.proofs.Sizes.{column_sized, beam_sized, hingeless_sized, detail_sized}
+use Rattle.basement.specs.Basement.{basement_shear_row, basement_moment_row}
+use Rattle.basement.proofs.Sizes.{basement_sized}
 use Rattle.walls.specs.declared.WallBase.{WallBase}
 use Rattle.walls.specs.Base.{WallBaseRange}
 use Rattle.walls.specs.Storey.{storey_row}
@@ -16,16 +21,19 @@ use Rattle.walls.proofs.Sizes.{base_sized, storey_sized}
 use Rattle.footing.specs.Rows.{footing_row}
 use Rattle.footing.proofs.Sizes.{footing_sized}
 use Rattle.format.specs.declared.Command.{Command}
-use Rattle.format.specs.declared.Command.TheVariants.{Finish as finish, Settings as settings, Joint as joint, Column as column, Beam as beam, Hingeless as hingeless, WallBase as wall_base, Storey as storey, Soil as soil, Footing as footing, Detail as detail}
+use Rattle.format.specs.declared.Command.TheVariants.{Finish as finish, Settings as settings, Joint as joint, Column as column, Beam as beam, Hingeless as hingeless, WallBase as wall_base, Storey as storey, Soil as soil, Footing as footing, Detail as detail, Basement as basement}
 use Rattle.format.specs.Commands.{in_range}
 use Rattle.format.specs.Types.{OfTypes}
+use Rattle.format.proofs.CommandRanges.{basement_in_range}
 use Rattle.context.specs.Running.{SettingsRange}
 use Rattle.context.specs.declared.Ground.{Ground}
 use Rattle.context.specs.Context.{Context, when_given}
-use Rattle.context.proofs.Ranges.{column_range, beam_range, hingeless_range, wall_base_range, storey_range, footing_range, detail_range}
+use Rattle.context.proofs.Ranges.{column_range, beam_range, hingeless_range, wall_base_range, storey_range, footing_range, detail_range, basement_shear_range, basement_moment_range}
+use Rattle.rows.specs.Nearest.{nearest_coefficient}
 use Rattle.rows.specs.Rows.{rows_of, rows_with}
 use Rattle.job.specs.Placed.{Placed}
 use Rattle.capacity.proofs.Ranges.{ContextRange, Good}
+use Rattle.capacity.proofs.Nearest.{quotient, nearest_capped}
 
 module _ (h : Context) (s : Settings) (range : ContextRange h) (r : SettingsRange s) where
   with_settings_lem : (c : Command) → in_range c ≡ true → OfTypes c → AllSized (rows_with h s c)
@@ -57,6 +65,19 @@ module _ (h : Context) (s : Settings) (range : ContextRange h) (r : SettingsRang
           let ranged = footing_range s r x f i in
           (footing_sized s x Plus ranged g.soil g.sensitive, (footing_sized s x Minus ranged g.soil g.sensitive, tt))
   with_settings_lem (detail d) i f = (detail_sized d (detail_range d i), tt)
+  with_settings_lem (basement id m) i f = at_hinge (nearest_coefficient h s id m.place) (nearest_capped h s range r id m.place)
+    where
+      at_hinge : (o : Option Fraction) → ((a : Fraction) → o ≡ Some a → Capped (quotient a)) → AllSized (when_given o (λ a. basement_shear_row a m ∷ basement_moment_row a m ∷ []))
+      at_hinge None k = tt
+      at_hinge (Some a) k =
+          let o = basement_in_range id m f.1 f.2 i in
+          let q = quotient a in (
+            basement_sized 1 q m.nonseismic_shear m.seismic_shear m.shear_strength (omega arith) (basement_shear_range q (k a refl) id m f.1 f.2 i) o.shear_strength,
+            (
+              basement_sized 2 q m.nonseismic_moment m.seismic_moment m.moment_strength (omega arith) (basement_moment_range q (k a refl) id m f.1 f.2 i) o.moment_strength,
+              tt,
+            ),
+          )
 
 pub rows_sized : (p : Placed) → Good p → AllSized (rows_of p.context p.command)
 unfolding rows_of

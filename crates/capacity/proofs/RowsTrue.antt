@@ -4,7 +4,9 @@ use mathlib.Core.Path.{◌≡◌, refl}
 use mathlib.Core.Bool.{true}
 use mathlib.Core.List.{List, [], ◌∷◌}
 use Rattle.std.specs.Prelude.{Option, None, Some}
+use Rattle.exact.specs.Fraction.{Fraction}
 use Rattle.coefficient.specs.declared.Settings.{Settings}
+use Rattle.coefficient.specs.Coefficient.{Capped}
 use Rattle.claims.specs.declared.Row.{Row}
 use Rattle.claims.specs.Claims.{Hold}
 use Rattle.members.specs.declared.Joint.{Joint}
@@ -13,23 +15,27 @@ use Rattle.members.proofs.ColumnHolds.{column_holds}
 use Rattle.members.proofs.BeamHolds.{beam_holds}
 use Rattle.members.proofs.HingelessHolds.{hingeless_holds}
 use Rattle.members.proofs.DetailHolds.{detail_holds}
+use Rattle.basement.specs.Basement.{basement_shear_row, basement_moment_row, basement_shear_claims, basement_moment_claims}
+use Rattle.basement.proofs.BasementHolds.{basement_shear_holds, basement_moment_holds}
 use Rattle.walls.specs.declared.WallBase.{WallBase}
 use Rattle.walls.specs.Storey.{storey_row, storey_claims}
 use Rattle.walls.proofs.Rows.{base_holds, storey_holds}
 use Rattle.footing.specs.Rows.{footing_row}
 use Rattle.footing.proofs.Held.{footing_holds}
 use Rattle.format.specs.declared.Command.{Command}
-use Rattle.format.specs.declared.Command.TheVariants.{Finish as finish, Settings as settings, Joint as joint, Column as column, Beam as beam, Hingeless as hingeless, WallBase as wall_base, Storey as storey, Soil as soil, Footing as footing, Detail as detail}
+use Rattle.format.specs.declared.Command.TheVariants.{Finish as finish, Settings as settings, Joint as joint, Column as column, Beam as beam, Hingeless as hingeless, WallBase as wall_base, Storey as storey, Soil as soil, Footing as footing, Detail as detail, Basement as basement}
 use Rattle.format.specs.Commands.{in_range}
 use Rattle.context.specs.Running.{SettingsRange}
 use Rattle.context.proofs.Ranges.{column_range, beam_range, hingeless_range, storey_range, footing_range, detail_range}
 use Rattle.context.specs.declared.Ground.{Ground}
 use Rattle.context.specs.Context.{Context, when_given}
+use Rattle.rows.specs.Nearest.{nearest_coefficient}
 use Rattle.rows.specs.Rows.{rows_of, rows_with}
 use Rattle.job.specs.Placed.{Placed}
 use Rattle.capacity.specs.DemandThree.{Claim, footing_claim, claims_of, claims_with}
 use Rattle.format.specs.Types.{OfTypes}
 use Rattle.capacity.proofs.Ranges.{ContextRange, Good}
+use Rattle.capacity.proofs.Nearest.{quotient, nearest_capped}
 
 -- as many rows as claims, and each claim holds of its row
 abbrev pub Pairwise : List Claim → List Row → Type 0
@@ -69,6 +75,12 @@ module _ (h : Context) (s : Settings) (range : ContextRange h) (r : SettingsRang
           let ranged = footing_range s r x f i in
           (footing_holds s x g.soil g.sensitive Plus ranged, (footing_holds s x g.soil g.sensitive Minus ranged, tt))
   with_settings_lem (detail d) i f = (detail_holds d (detail_range d i), tt)
+  with_settings_lem (basement id m) i f = at_hinge (nearest_coefficient h s id m.place) (nearest_capped h s range r id m.place)
+    where
+      at_hinge : (o : Option Fraction) → ((a : Fraction) → o ≡ Some a → Capped (quotient a)) →
+          Pairwise (when_given o (λ a. (λ r. Hold (basement_shear_claims a m r)) ∷ (λ r. Hold (basement_moment_claims a m r)) ∷ [])) (when_given o (λ a. basement_shear_row a m ∷ basement_moment_row a m ∷ []))
+      at_hinge None k = tt
+      at_hinge (Some a) k = (basement_shear_holds a (k a refl).positive m, (basement_moment_holds a (k a refl).positive m, tt))
 
 pub rows_true : (p : Placed) → Good p → Pairwise (claims_of p) (rows_of p.context p.command)
 unfolding claims_of rows_of

@@ -1,7 +1,7 @@
 -- The words of a storey in what `run` writes: words 2 to 7 come from the running values of the latest wall and the storey's operands
 -- alone, so two storeys of any two jobs that have these in common have the same. 02, No. 4. Assumes nothing.
 use mathlib.Core.Path.{◌≡◌, sym, ap, ◌∙◌, subst}
-use mathlib.Core.List.{List, ◌∷◌, ◌++◌}
+use mathlib.Core.List.{List, [], ◌∷◌, ◌++◌}
 use Prim.Native.Nat.{ℕ, ◌*◌, ◌≤◌, ◌<◌}
 use lib.IntN.{ℤ}
 use lib.ListN.{length}
@@ -21,7 +21,7 @@ use Rattle.job.proofs.Reached.{reached_accepted}
 use Rattle.job.proofs.LatestWall.{at_every_storey}
 use Rattle.capacity.specs.Calls.{rows_after}
 use Rattle.capacity.specs.DemandThree.{row_read}
-use Rattle.capacity.proofs.RowRead.{row_read_lem}
+use Rattle.capacity.proofs.RowRead.{first_row}
 
 -- ---- the words of a storey
 
@@ -42,7 +42,7 @@ module _ (job : List ℕ) (earlier : List Placed) (s : Storey) (t : StoreyOf job
       at_every_storey job t.bytes earlier t.this t.later (ap placed_all (reached_accepted job es l) ∙ q ∙ t.place) s t.is_storey
 
   row_is : (m : List ℤ) → 8 * length (all_rows t.commands) ≤ length m → row_read (rows_after job m) (length (all_rows earlier)) ≡ running_storey_row at_storey.carries.wall s
-  row_is m l = row_read_lem job t.commands t.is_accepted earlier t.this t.later t.place 7 (running_storey_row at_storey.carries.wall s) at_storey.row m l
+  row_is m l = first_row job t.commands t.is_accepted earlier t.this t.later t.place m l 7 (running_storey_row at_storey.carries.wall s) [] at_storey.row
 
   -- words 2 to 7, from the running values and the operands
   pub storey_words : (m : List ℤ) → 8 * length (all_rows t.commands) ≤ length m → option_map (λ w. running_storey_row w s) (wall_after earlier) ≡ Some (row_read (rows_after job m) (length (all_rows earlier)))

@@ -12,6 +12,7 @@ use Rattle.members.specs.Column.{column_claims}
 use Rattle.members.specs.Beam.{beam_claims}
 use Rattle.members.specs.Hingeless.{hingeless_claims}
 use Rattle.members.specs.Detail.{detail_claims}
+use Rattle.basement.specs.Basement.{basement_shear_claims, basement_moment_claims}
 use Rattle.walls.specs.Base.{base_claims}
 use Rattle.walls.specs.Storey.{storey_claims}
 use Rattle.actions.specs.declared.Sign.{Sign}
@@ -19,9 +20,10 @@ use Rattle.actions.specs.declared.Sign.TheVariants.{Plus, Minus}
 use Rattle.footing.specs.declared.Footing.{Footing}
 use Rattle.footing.specs.Claimed.{footing_claims}
 use Rattle.format.specs.declared.Command.{Command}
-use Rattle.format.specs.declared.Command.TheVariants.{Finish as finish, Settings as settings, Joint as joint, Column as column, Beam as beam, Hingeless as hingeless, WallBase as wall_base, Storey as storey, Soil as soil, Footing as footing, Detail as detail}
+use Rattle.format.specs.declared.Command.TheVariants.{Finish as finish, Settings as settings, Joint as joint, Column as column, Beam as beam, Hingeless as hingeless, WallBase as wall_base, Storey as storey, Soil as soil, Footing as footing, Detail as detail, Basement as basement}
 use Rattle.context.specs.declared.Ground.{Ground}
 use Rattle.context.specs.Context.{Context, when_given}
+use Rattle.rows.specs.Nearest.{nearest_coefficient}
 use Rattle.job.specs.Placed.{Placed, Job, refused, accepted, placed, rows_at}
 
 -- what is claimed of a row, by its words 2 to 7
@@ -45,6 +47,8 @@ claims_with h s (storey t) = when_given h.wall (λ b. (λ r. Hold (storey_claims
 claims_with h s (soil t) = []
 claims_with h s (footing f) = when_given h.ground (λ g. footing_claim s f g Plus ∷ footing_claim s f g Minus ∷ [])
 claims_with h s (detail d) = (λ r. Hold (detail_claims d r)) ∷ []
+claims_with h s (basement id m) =
+    when_given (nearest_coefficient h s id m.place) (λ a. (λ r. Hold (basement_shear_claims a m r)) ∷ (λ r. Hold (basement_moment_claims a m r)) ∷ [])
 
 unfoldable pub claims_of : Placed → List Claim
 unfolding claims_with

@@ -23,7 +23,7 @@
  *    4  first command not settings, or settings again
  *    5  operand out of range, in a job and from the eak_write calls; from eak_write_block also too few words; from eak_take_down kind
  *       or value out of range
- *    6  joint id not yet given, storey or block without wall base, footing without soil
+ *    6  joint id not yet given, storey or block without wall base, basement member without its joint or wall base, footing without soil
  *    7  no longer given (before version 1.1.0: joint id given twice; a joint given again now replaces the earlier one)
  *    8  a 4,097th command, end not counted; a block that would pass 4,096, as it counts as many commands as it has sets
  *    9  too few words for the rows, from eak_run and eak_page
@@ -41,9 +41,12 @@
 extern "C" {
 #endif
 
-/* The version that this header belongs to, 4.0.0: 10,000 times the major number, 100 times the minor one, and the patch. With the major
+/* The version that this header belongs to, 4.1.0: 10,000 times the major number, 100 times the minor one, and the patch. With the major
  * number a call is changed or removed, or words of the rows of accepted jobs change; with the minor one a call is added, or jobs are
  * accepted that were refused. eak_version answers the library's.
+ * From version 4.1.0 on, a job may have basement members, command 0C, which eak_write_basement writes; before, this byte was refusal 2.
+ * Other jobs are as they were, and a program written for 4.0.0 need not be changed. EAK_MOST_ROWS is 8,189; it was 8,188, so a program
+ * that was compiled with the header of 4.0.0 and lends the words of 8,188 rows is refused with 9 where a job has a row more.
  * From version 4.0.0 on, eak_run answers the rows failed and the checks failed beside the rows, in a struct of its own, and eak_total is
  * gone, with its struct and its refusals. A program written for 3.1.0 is changed as follows:
  *    - eak_run answers a struct eak_run_answer; struct eak_job_answer is the answer of eak_size alone.
@@ -53,10 +56,11 @@ extern "C" {
  *      write beyond the struct that the program has.
  * A program that totals fewer rows than a job has, or rows of its own making, counts them itself: a row failed where its word 7 is not
  * 0, and its checks failed are the one bits of that word. Jobs, rows and the refusals of a job are as they were. */
-#define EAK_VERSION 40000
+#define EAK_VERSION 40100
 
 /* The words of a row. Word 0 is the command's offset in the job, word 1 its byte, word 7 the verdict, 0 for passed; docs/FORMAT.md has
- * the others. A storey of a block has the offset of its set's first byte in word 0 and 7, the byte of a storey, in word 1.
+ * the others. A storey of a block has the offset of its set's first byte in word 0 and 7, the byte of a storey, in word 1. A footing and
+ * a basement member write two rows with the same words 0 and 1: a footing plus and then minus, a basement member shear and then moment.
  * From version 2.0.0 on, rows tell where the cap q holds the design shear: word 6 of a column and of a wall base, word 5 (plus) and
  * word 6 (minus) of a beam are 1 where the cap is strictly the smaller, or the ME of a wall base is 0, else 0. Before, these words were
  * 0. A 1 says that no greater resistance changes that shear; a 0 says that the shear is that of the resistances.
@@ -66,9 +70,9 @@ extern "C" {
  * From version 3.1.0 on, a job may have storeys in blocks, command 0B; before, this byte was refusal 2. Other jobs are as they were. */
 #define EAK_ROW_WORDS 8
 
-/* No job has more rows: 4,096 commands at most, of which the settings and a soil write none and 4,094 footings write two each; a block
- * writes a row for each command that it counts as. A slice of EAK_MOST_ROWS times EAK_ROW_WORDS words is enough for every job. */
-#define EAK_MOST_ROWS 8188
+/* No job has more rows: 4,096 commands at most, of which the settings write none, a wall base one and 4,094 basement members two each; a
+ * block writes a row for each command that it counts as. A slice of EAK_MOST_ROWS times EAK_ROW_WORDS words is enough for every job. */
+#define EAK_MOST_ROWS 8189
 
 /* No command but a block has more bytes: a footing has 58. With so much room no write but a block's is refused with 11. */
 #define EAK_COMMAND_BYTES 58
@@ -248,6 +252,19 @@ struct eak_detail {
 
 /* 0B block: storeys of the latest wall, one behind the other. It has no struct: eak_write_block takes a count and words. */
 
+/* 0C basement member: below the hinges, with the coefficient of the nearest one. V: of the non-seismic loads; E: of the seismic action,
+ * as its size, for both directions are tried. */
+struct eak_basement {
+    uint32_t place; /* of the nearest possible hinge: 0 joint, 1 latest wall */
+    uint32_t id;    /* id of the joint, 0 to 255; for a wall 0 */
+    int32_t vv;     /* shear, V, N, -100,000,000 to 100,000,000 */
+    uint32_t ve;    /* shear, E, N, 0 to 100,000,000 */
+    int32_t mv;     /* moment, V, N m, -100,000,000 to 100,000,000 */
+    uint32_t me;    /* moment, E, N m, 0 to 100,000,000 */
+    uint32_t vr;    /* shear strength, N, 0 to 100,000,000 */
+    uint32_t mr;    /* moment strength, N m, 0 to 100,000,000 */
+};
+
 /* The library's version; EAK_VERSION is the header's. */
 uint32_t eak_version(void);
 
@@ -255,8 +272,9 @@ uint32_t eak_version(void);
 struct eak_job_answer eak_size(const uint8_t *job, size_t job_bytes);
 
 /* The refusal of eak_size, with the command and, for 5, the operand. Reads the job. The operand is the first one outside its own
- * range; where each is within it, J of a storey whose J is above J0, or the value of a soil that is not allowed for its kind. In a
- * block it is the count, or that of the first set at fault, found as in a storey. */
+ * range; where each is within it, J of a storey whose J is above J0, the value of a soil that is not allowed for its kind, or the id,
+ * other than 0, of a basement member under a wall. In a block it is the count, or that of the first set at fault, found as in a
+ * storey. */
 struct eak_fault_answer eak_fault(const uint8_t *job, size_t job_bytes);
 
 /* Writes the rows of a job, EAK_ROW_WORDS words each, from rows[0] on, and answers their number, the rows failed and the checks failed.
@@ -273,7 +291,8 @@ struct eak_soil_answer eak_take_down(uint8_t kind, float value);
 
 /* Writing a job, one command a call: its values, then the bytes where it is to stand and how many there are. A call writes the command
  * from bytes[0] on and answers its bytes; where `room` is larger, the bytes after them stay as they were. It tries
- *    5  a value is out of range; where each is within its range, J is above J0, or the kind does not allow the soil value
+ *    5  a value is out of range; where each is within its range, J is above J0, the kind does not allow the soil value, or the id of a
+ *       basement member under a wall is not 0
  *   11  `room` is less than the command's bytes; exactly as many suffice
  * in this order, 5 whatever the room is; in a refusal every byte stays as it was. What depends on the commands before it (4, 6, 8) is
  * not tried: eak_size of the finished job does that. Each command is written where the last one ended, and the end is the last:
@@ -290,6 +309,7 @@ struct eak_write_answer eak_write_storey(struct eak_storey values, uint8_t *byte
 struct eak_write_answer eak_write_soil(struct eak_soil values, uint8_t *bytes, size_t room);
 struct eak_write_answer eak_write_footing(struct eak_footing values, uint8_t *bytes, size_t room);
 struct eak_write_answer eak_write_detail(struct eak_detail values, uint8_t *bytes, size_t room);
+struct eak_write_answer eak_write_basement(struct eak_basement values, uint8_t *bytes, size_t room);
 struct eak_write_answer eak_write_end(uint8_t *bytes, size_t room);
 
 /* Writes a block of `count` storeys like the calls above. Their values stand in `sets`, a stretch of `words` words: EAK_SET_WORDS a

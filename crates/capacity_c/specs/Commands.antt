@@ -1,13 +1,14 @@
 -- The commands of the values that a program in another language gives, and what it gets back: an id above 255, which no command can
--- hold, makes none. 02, No. 2. Assumes nothing.
+-- hold, makes none. 02, No. 2 and No. 9. Assumes nothing.
 use Rattle.std.specs.Prelude.{cond, ◌&&◌, leb}
 use Rattle.std.proofs.Math.Option.{Option, none, some}
 use Rattle.std.specs.Float.{binary32}
 use Rattle.std.specs.Float.Ieee.{to_bits}
 use Rattle.members.specs.declared.Joint.{Joint}
 use Rattle.members.specs.declared.Hingeless.{Hingeless}
+use Rattle.basement.specs.declared.Basement.{Basement}
 use Rattle.format.specs.declared.Command.{Command}
-use Rattle.format.specs.declared.Command.TheVariants.{Settings as settings, Joint as joint, Column as column, Beam as beam, Hingeless as hingeless, WallBase as wall_base, Storey as storey, Soil as soil, Footing as footing, Detail as detail}
+use Rattle.format.specs.declared.Command.TheVariants.{Settings as settings, Joint as joint, Column as column, Beam as beam, Hingeless as hingeless, WallBase as wall_base, Storey as storey, Soil as soil, Footing as footing, Detail as detail, Basement as basement}
 use Rattle.blocks.specs.FileCommands.{FileCommand, one}
 use Rattle.writing.specs.Answers as writing
 use Rattle.capacity_c.specs.declared.writes.WriteAnswer.{WriteAnswer}
@@ -21,6 +22,7 @@ use Rattle.capacity_c.specs.declared.writes.StoreyOperands.{StoreyOperands}
 use Rattle.capacity_c.specs.declared.writes.SoilOperands.{SoilOperands}
 use Rattle.capacity_c.specs.declared.writes.FootingOperands.{FootingOperands}
 use Rattle.capacity_c.specs.declared.writes.DetailOperands.{DetailOperands}
+use Rattle.capacity_c.specs.declared.writes.BasementOperands.{BasementOperands}
 
 -- ---- the answer as a struct
 
@@ -117,3 +119,18 @@ footing_command v =
 
 abbrev pub detail_command : DetailOperands → Command
 detail_command v = detail (record { place = v.place; ultimate = v.xu; yielded = v.xy; ductility = v.mu; lap = v.lap })
+
+abbrev pub basement_of : BasementOperands → Basement
+basement_of v =
+    record {
+      place = v.place;
+      nonseismic_shear = v.vv;
+      seismic_shear = v.ve;
+      nonseismic_moment = v.mv;
+      seismic_moment = v.me;
+      shear_strength = v.vr;
+      moment_strength = v.mr;
+    }
+
+abbrev pub basement_command : BasementOperands → Option FileCommand
+basement_command v = cond (leb v.id 255) (some (one (basement v.id (basement_of v)))) none

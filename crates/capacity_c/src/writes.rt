@@ -1,16 +1,18 @@
 // The calls that write a job's commands, for programs in other languages: the values of a command as a struct, its bytes into the lent
 // slice. None has a `requires`, and each contract is that of `writing::write` for the command of the values, or that of
-// `writing::write_block`. 02, No. 2 and No. 7.
+// `writing::write_block`. 02, No. 2, No. 7 and No. 9.
 ghost use Rattle.std.specs.Prelude.{◌≡◌, length};
 ghost use Rattle.std.specs.Float.{binary32};
 ghost use Rattle.std.specs.Float.Ieee.{to_bits};
 ghost use Rattle.members.specs.declared.Joint.{Joint};
 ghost use Rattle.members.specs.declared.Hingeless.{Hingeless};
+ghost use Rattle.basement.specs.declared.Basement.{Basement};
 ghost use Rattle.format.specs.declared.Command.TheVariants.{Finish as finish, Settings as settings, Column as column, Beam as beam, WallBase as wall_base, Storey as storey, Soil as soil, Footing as footing, Detail as detail};
 ghost use Rattle.writing.specs.Answers.{answer_of, refused_with, write_of, bytes_after, write_given, bytes_given};
 ghost use Rattle.writing.specs.BlockGiven.{write_block_of, block_bytes_after};
-ghost use Rattle.capacity_c.specs.Commands.{write_answer, joint_of, hingeless_of, settings_command, joint_command, column_command, beam_command, hingeless_command, wall_base_command, storey_command, soil_command, footing_command, detail_command};
+ghost use Rattle.capacity_c.specs.Commands.{write_answer, joint_of, hingeless_of, basement_of, settings_command, joint_command, column_command, beam_command, hingeless_command, wall_base_command, storey_command, soil_command, footing_command, detail_command, basement_command};
 
+use basement::Basement;
 use coefficient::Settings;
 use footing::Footing;
 use format::SoilGiven;
@@ -141,6 +143,19 @@ pub struct DetailOperands {
     pub xy: u32,
     pub mu: u32,
     pub lap: u32,
+}
+
+#[repr(C)]
+#[derive(Clone, Copy)]
+pub struct BasementOperands {
+    pub place: u32,
+    pub id: u32,
+    pub vv: i32,
+    pub ve: u32,
+    pub mv: i32,
+    pub me: u32,
+    pub vr: u32,
+    pub mr: u32,
 }
 
 // The 32 bits of a float; one pattern for every NaN.
@@ -307,6 +322,22 @@ impl From<DetailOperands> for Detail {
     }
 }
 
+impl From<BasementOperands> for Basement {
+    ghost from_gives = { λ v x. x ≡ basement_of v };
+
+    fn from(values: BasementOperands) -> Basement {
+        Basement {
+            place: values.place,
+            nonseismic_shear: values.vv,
+            seismic_shear: values.ve,
+            nonseismic_moment: values.mv,
+            seismic_moment: values.me,
+            shear_strength: values.vr,
+            moment_strength: values.mr,
+        }
+    }
+}
+
 // ---- what the calls share
 
 impl From<Result<usize, WriteError>> for WriteAnswer {
@@ -434,6 +465,18 @@ pub extern "C" fn eak_write_block(count: u32, sets: &[u32], bytes: &mut [u8]) ->
     ensures bytes { bytes.new ≡ block_bytes_after count sets.now bytes.old }
 {
     WriteAnswer::from(writing::write_block(count, sets, bytes))
+}
+
+// 0C basement member. An id above 255 is refused, and not narrowed.
+#[unsafe(no_mangle)]
+pub extern "C" fn eak_write_basement(values: BasementOperands, bytes: &mut [u8]) -> WriteAnswer
+    ensures answer { result ≡ write_answer (write_given (basement_command values) (length bytes.old)) }
+    ensures bytes { bytes.new ≡ bytes_given (basement_command values) bytes.old }
+{
+    let Ok(joint) = u8::try_from(values.id) else {
+        return WriteAnswer::from(Err(WriteError::OutOfRange));
+    };
+    WriteAnswer::from(writing::write_values((joint, Basement::from(values)), bytes))
 }
 
 // 00 end, after the last command of a job.

@@ -1,10 +1,16 @@
 -- What the rules ask of operands and of what holds, from a command whose values are in range. Assumes nothing.
 use mathlib.Core.Bool.{true}
 use mathlib.Core.Path.{◌≡◌}
-use Prim.Native.Nat.{ℕ, ◌≤◌}
+use Prim.Native.Nat.{ℕ, ◌≤◌, min}
+use native.Mathlib.Nat.{min-le_left, le_trans}
+use lib.IntN.{pos}
 use mir.Syntax.{w32}
 use mir.Val.{SFits}
 use Rattle.coefficient.specs.declared.Settings.{Settings}
+use Rattle.coefficient.specs.declared.Quotient.{Quotient}
+use Rattle.coefficient.specs.Coefficient.{CoefficientRange, Capped}
+use Rattle.actions.specs.Ranges.{ActionRange}
+use Rattle.basement.specs.declared.Basement.{Basement}
 use Rattle.members.specs.declared.Beam.{Beam}
 use Rattle.members.specs.declared.Column.{Column}
 use Rattle.members.specs.declared.Detail.{Detail}
@@ -20,10 +26,10 @@ use Rattle.walls.specs.Base.{WallBaseRange}
 use Rattle.walls.specs.Storey.{StoreyRange}
 use Rattle.footing.specs.declared.Footing.{Footing}
 use Rattle.footing.specs.Rows.{FootingRange}
-use Rattle.format.specs.declared.Command.TheVariants.{Settings as settings, Joint as joint, WallBase as wall_base, Beam as beam, Footing as footing, Column as column, Hingeless as hingeless, Storey as storey, Detail as detail}
+use Rattle.format.specs.declared.Command.TheVariants.{Settings as settings, Joint as joint, WallBase as wall_base, Beam as beam, Footing as footing, Column as column, Hingeless as hingeless, Storey as storey, Detail as detail, Basement as basement}
 use Rattle.format.specs.Commands.{in_range}
 use Rattle.format.specs.Types.{FootingFits}
-use Rattle.format.proofs.CommandRanges.{settings_in_range, joint_in_range, column_in_range, hingeless_in_range, storey_in_range, detail_in_range, wall_base_in_range, beam_in_range, footing_in_range}
+use Rattle.format.proofs.CommandRanges.{settings_in_range, joint_in_range, column_in_range, hingeless_in_range, storey_in_range, detail_in_range, wall_base_in_range, beam_in_range, footing_in_range, BasementOperands, basement_in_range}
 use Rattle.context.specs.Running.{SettingsRange}
 
 pub settings_range : (s : Settings) → in_range (settings s) ≡ true → SettingsRange s
@@ -143,3 +149,18 @@ detail_range d h =
       ductility = o.ductility_greatest;
       lap = o.lap;
     }
+
+-- the coefficient of a joint; V and E of a basement member, by a coefficient within its bounds
+pub joint_coefficient_range : (s : Settings) → SettingsRange s → (j : Joint) → JointRange j → CoefficientRange s.joints (min j.beams j.columns) j.seismic s.behaviour
+joint_coefficient_range s r j k =
+    record { overstrength = r.joints; resistance = le_trans (min-le_left j.beams j.columns) k.beams; seismic = k.seismic; behaviour = r.behaviour }
+
+module _ (a : Quotient) (c : Capped a) (id : ℕ) (m : Basement) (f : SFits w32 m.nonseismic_shear) (g : SFits w32 m.nonseismic_moment) (h : in_range (basement id m) ≡ true) where
+  operands : BasementOperands m
+  operands = basement_in_range id m f g h
+
+  pub basement_shear_range : ActionRange a m.nonseismic_shear (pos m.seismic_shear)
+  basement_shear_range = record { coefficient = c; steady = operands.nonseismic_shear; seismic = operands.seismic_shear }
+
+  pub basement_moment_range : ActionRange a m.nonseismic_moment (pos m.seismic_moment)
+  basement_moment_range = record { coefficient = c; steady = operands.nonseismic_moment; seismic = operands.seismic_moment }

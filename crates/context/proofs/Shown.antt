@@ -13,7 +13,7 @@ use Rattle.coefficient.specs.declared.Settings.{Settings}
 use Rattle.members.specs.declared.Joint.{Joint}
 use Rattle.walls.specs.declared.WallBase.{WallBase}
 use Rattle.format.specs.declared.Command.{Command}
-use Rattle.format.specs.declared.Command.TheVariants.{Finish as finish, Settings as settings, Joint as joint, Hingeless as hingeless, WallBase as wall_base, Storey as storey, Soil as soil, Footing as footing}
+use Rattle.format.specs.declared.Command.TheVariants.{Finish as finish, Settings as settings, Joint as joint, Hingeless as hingeless, WallBase as wall_base, Storey as storey, Soil as soil, Footing as footing, Basement as basement}
 use Rattle.context.specs.declared.LatestWall.{LatestWall}
 use Rattle.context.specs.declared.LatestWall.TheVariants.{Missing}
 use Rattle.context.specs.declared.State.{State}
@@ -41,6 +41,7 @@ pub record Shows (room : Bool) (t : State) (table : JointTable) (h : Context) : 
 abbrev pub IdsFit : Command → Type 0
 IdsFit (joint id j) = id < 256
 IdsFit (hingeless id1 id2 m) = (id1 < 256) × (id2 < 256)
+IdsFit (basement id m) = id < 256
 IdsFit _ = Unit {0}
 
 pub differ : true ≡ false → ⊥
@@ -72,6 +73,7 @@ module _ (room : Bool) (t : State) (table : JointTable) (h : Context) (s : Shows
   absent_same (hingeless id1 id2 m) i = rw (s.joints id1 i.0, s.joints id2 i.1)
   absent_same (storey x) i = ap not (sym walled_lem)
   absent_same (footing f) i = rw s.state
+  absent_same (basement id m) i = rw (s.joints id i, ← walled_lem)
   absent_same _ i = refl
 
 -- ---- after a command

@@ -1,5 +1,5 @@
 -- The context of a command, what holds at it: settings, joints by id, the latest wall base as it was given, the latest soil with its
--- sensitivity; and how a command changes it. 01, "Job commands".
+-- sensitivity; and how a command changes it. 01, "Job commands"; 02, No. 9.
 use Rattle.std.specs.Prelude.{Bool, false, ◌||◌, cond, List, [], ℕ, eqb, Option, None, Some, is_some, is_none}
 use Rattle.std.specs.Float.{binary32}
 use Rattle.std.specs.Float.Ieee.{of_bits}
@@ -8,7 +8,7 @@ use Rattle.coefficient.specs.declared.Settings.{Settings}
 use Rattle.members.specs.declared.Joint.{Joint}
 use Rattle.walls.specs.declared.WallBase.{WallBase}
 use Rattle.format.specs.declared.Command.{Command}
-use Rattle.format.specs.declared.Command.TheVariants.{Settings as settings, Joint as joint, Hingeless as hingeless, WallBase as wall_base, Storey as storey, Soil as soil, Footing as footing}
+use Rattle.format.specs.declared.Command.TheVariants.{Settings as settings, Joint as joint, Hingeless as hingeless, WallBase as wall_base, Storey as storey, Soil as soil, Footing as footing, Basement as basement}
 use Rattle.format.specs.declared.SoilGiven.{SoilGiven}
 use Rattle.context.specs.declared.Ground.{Ground}
 
@@ -48,9 +48,11 @@ abbrev pub when_given {κ} : {A : Type 0} {B : Type κ} → Option A → (A → 
 when_given None f = []
 when_given (Some a) f = f a
 
--- refusal 6: joint id not yet given, storey without base, footing without soil
+-- refusal 6: joint id not yet given, storey without base, footing without soil; a basement member without its joint or wall (02, No. 9),
+-- place 0 being a joint and 1 the latest wall
 unfoldable pub absent : Context → Command → Bool
 absent h (hingeless id1 id2 m) = missing (h.joints id1) || missing (h.joints id2)
 absent h (storey s) = missing h.wall
 absent h (footing f) = missing h.ground
+absent h (basement id m) = cond (eqb m.place 0) (missing (h.joints id)) (missing h.wall)
 absent h _ = false

@@ -1,7 +1,7 @@
 -- The same in the shape that the code keeps: of the latest wall its running values (its coefficient, base shear and MR, worked out
 -- once at the base command), and the joints in a table with a place for each of 256 ids. Where no row is to be written (`room` is
 -- false) it is only kept that a wall is given, not its values. proofs/Shown.antt ties a state and a table to the context.
-use Rattle.std.specs.Prelude.{◌≡◌, Bool, true, false, not, ◌||◌, List, ℕ, ◌≤◌, leb, get_or, set, Option, None, Some, IfSome}
+use Rattle.std.specs.Prelude.{◌≡◌, Bool, true, false, not, ◌||◌, cond, List, ℕ, ◌≤◌, eqb, leb, get_or, set, Option, None, Some, IfSome}
 use Rattle.coefficient.specs.declared.Settings.{Settings}
 use Rattle.members.specs.declared.Joint.{Joint}
 use Rattle.members.specs.Hingeless.{JointRange}
@@ -9,7 +9,7 @@ use Rattle.walls.specs.declared.Wall.{Wall}
 use Rattle.walls.specs.declared.WallBase.{WallBase}
 use Rattle.walls.specs.Running.{wall_of, WallRange}
 use Rattle.format.specs.declared.Command.{Command}
-use Rattle.format.specs.declared.Command.TheVariants.{Settings as settings, Joint as joint, Hingeless as hingeless, WallBase as wall_base, Storey as storey, Soil as soil, Footing as footing}
+use Rattle.format.specs.declared.Command.TheVariants.{Settings as settings, Joint as joint, Hingeless as hingeless, WallBase as wall_base, Storey as storey, Soil as soil, Footing as footing, Basement as basement}
 use Rattle.format.specs.Commands.{in_range}
 use Rattle.context.specs.declared.LatestWall.{LatestWall}
 use Rattle.context.specs.declared.LatestWall.TheVariants.{Missing, Given, Running}
@@ -66,6 +66,7 @@ unfoldable pub absent_in : State → JointTable → Command → Bool
 absent_in t joints (hingeless id1 id2 m) = missing (joint_at joints id1) || missing (joint_at joints id2)
 absent_in t joints (storey s) = not (walled t.wall)
 absent_in t joints (footing f) = missing t.soil
+absent_in t joints (basement id m) = cond (eqb m.place 0) (missing (joint_at joints id)) (not (walled t.wall))
 absent_in t joints _ = false
 
 -- ---- what the code asks: values in the ranges of 01

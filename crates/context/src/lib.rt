@@ -148,6 +148,8 @@ impl Held<'_> {
             }
             Command::Storey(_) => !self.state.wall.is_given(),
             Command::Footing(_) => self.state.soil.is_none(),
+            Command::Basement(id, m) if m.place == 0 => self.joints[usize::from(id)].is_none(),
+            Command::Basement(_, _) => !self.state.wall.is_given(),
             _ => false,
         }
     }

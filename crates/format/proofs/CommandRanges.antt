@@ -18,11 +18,12 @@ use Rattle.members.specs.declared.Detail.{Detail}
 use Rattle.walls.specs.declared.WallBase.{WallBase}
 use Rattle.walls.specs.declared.Storey.{Storey}
 use Rattle.footing.specs.declared.Footing.{Footing}
+use Rattle.basement.specs.declared.Basement.{Basement}
 use Rattle.soil.specs.Reading.{soil_allowed}
 use Rattle.layout.specs.Number.{signed32}
 use Rattle.layout.specs.Forms.{form_in_range}
 use Rattle.layout.specs.Layouts.{forms_of, forms_in}
-use Rattle.format.specs.Commands.{SoilGiven, settings, joint, column, beam, hingeless, wall_base, storey, soil, footing, detail, operands_of, command_of, related, in_range, settings_of, joint_of, column_of, beam_of, hingeless_of, wall_base_of, storey_of, soil_given_of, footing_of, detail_of}
+use Rattle.format.specs.Commands.{SoilGiven, settings, joint, column, beam, hingeless, wall_base, storey, soil, footing, detail, basement, operands_of, command_of, related, in_range, settings_of, joint_of, column_of, beam_of, hingeless_of, wall_base_of, storey_of, soil_given_of, footing_of, detail_of, basement_of}
 use Rattle.format.specs.Types.{FootingFits}
 use Rattle.layout.proofs.Numbers.{signed_of_bits}
 use Rattle.layout.proofs.OperandsRead.{at}
@@ -136,6 +137,15 @@ pub record DetailOperands (d : Detail) : Type 0 where
   pub ductility_least : 1000 ≤ d.ductility
   pub ductility_greatest : d.ductility ≤ 2000
   pub lap : d.lap ≤ 1
+
+pub record BasementOperands (m : Basement) : Type 0 where
+  pub place : m.place ≤ 1
+  pub nonseismic_shear : nat_abs m.nonseismic_shear ≤ 100000000
+  pub seismic_shear : m.seismic_shear ≤ 100000000
+  pub nonseismic_moment : nat_abs m.nonseismic_moment ≤ 100000000
+  pub seismic_moment : m.seismic_moment ≤ 100000000
+  pub shear_strength : m.shear_strength ≤ 100000000
+  pub moment_strength : m.moment_strength ≤ 100000000
 
 -- ---- from the test of each operand, and the relation
 
@@ -272,6 +282,19 @@ detail_operands v h =
       lap = most _ (v 4) (h 4 (lit< tt));
     }
 
+pub basement_operands : (v : ℕ → ℕ) → EachIn 12 v → BasementOperands (basement_of v)
+unfolding forms_of forms_in form_in_range
+basement_operands v h =
+    record {
+      place = most _ (v 0) (h 0 (lit< tt));
+      nonseismic_shear = size _ (signed32 (v 2)) (h 2 (lit< tt));
+      seismic_shear = most _ (v 3) (h 3 (lit< tt));
+      nonseismic_moment = size _ (signed32 (v 4)) (h 4 (lit< tt));
+      seismic_moment = most _ (v 5) (h 5 (lit< tt));
+      shear_strength = most _ (v 6) (h 6 (lit< tt));
+      moment_strength = most _ (v 7) (h 7 (lit< tt));
+    }
+
 -- ---- from the test of a command's values; a signed value is one of 32 bits
 
 pub settings_in_range : (s : Settings) → in_range (settings s) ≡ true → SettingsOperands s
@@ -311,3 +334,8 @@ footing_in_range f p h =
 
 pub detail_in_range : (d : Detail) → in_range (detail d) ≡ true → DetailOperands d
 detail_in_range d h = detail_operands (at (operands_of (detail d))) (values_each (detail d) h)
+
+pub basement_in_range : (id : ℕ) (m : Basement) → SFits w32 m.nonseismic_shear → SFits w32 m.nonseismic_moment → in_range (basement id m) ≡ true → BasementOperands m
+basement_in_range id m f g h =
+    rw (signed_of_bits f, signed_of_bits g) at
+    (basement_operands (at (operands_of (basement id m))) (values_each (basement id m) h))

@@ -12,8 +12,8 @@ use Rattle.layout.specs.Layouts.{known, forms_of, forms_in, operands_width}
 use Rattle.format.specs.Commands.{Command, storey, byte_of, operands_of, storey_of, command_of}
 use Rattle.layout.specs.Operands.{operand, byte_at, read_operands, operands_at}
 use Rattle.format.specs.Reading.{command_at}
-use Rattle.layout.proofs.KnownBytes.{each_byte, known_most}
-use Rattle.format.proofs.OtherBytes.{command_above}
+use Rattle.layout.proofs.KnownBytes.{each_byte}
+use Rattle.format.proofs.OtherBytes.{command_other}
 use Rattle.format.proofs.RoundTrip.{byte_back, operands_back}
 use Rattle.layout.proofs.Numbers.{Bytes}
 use Rattle.layout.proofs.Widths.{widths}
@@ -56,7 +56,9 @@ command_same byte v w =
       h 14 (lit< tt),
     ))
     (λ h. rw (h 0 (lit< tt), h 1 (lit< tt), h 2 (lit< tt), h 3 (lit< tt), h 4 (lit< tt)))
-    (λ b l h. command_above b v l ∙ sym (command_above b w l))
+    (λ h.
+    rw (h 0 (lit< tt), h 1 (lit< tt), h 2 (lit< tt), h 3 (lit< tt), h 4 (lit< tt), h 5 (lit< tt), h 6 (lit< tt), h 7 (lit< tt)))
+    (λ b l h. command_other b v l ∙ sym (command_other b w l))
     byte
 
 module _ (job : List ℕ) (start : ℕ) where
@@ -72,7 +74,7 @@ module _ (job : List ℕ) (start : ℕ) where
   -- its byte is that of the command
   pub byte_read : known (byte_at job start) ≡ true → byte_of (command_at job start) ≡ byte_at job start
   unfolding command_at
-  byte_read k = byte_back (byte_at job start) (at (operands_at job start)) (known_most (byte_at job start) k)
+  byte_read k = byte_back (byte_at job start) (at (operands_at job start)) k
 
   -- its operands are those that stand behind it
   pub operands_read : Bytes job → operands_of (command_at job start) ≡ operands_at job start

@@ -12,7 +12,7 @@ use Rattle.layout.proofs.OperandsRead.{Fit, at, operands_fit}
 use Rattle.format.specs.Commands.{command_of}
 use Rattle.format.specs.Reading.{command_at}
 use Rattle.format.specs.Types.{OfTypes}
-use Rattle.format.proofs.OtherBytes.{command_above}
+use Rattle.format.proofs.OtherBytes.{command_other}
 
 types_of : (byte : ℕ) (v : ℕ → ℕ) → Fit byte v → OfTypes (command_of byte v)
 unfolding command_of forms_of forms_in width
@@ -30,7 +30,8 @@ types_of byte v =
       hv = signed_fits (v 10) (f 10 (lit< tt));
       he = signed_fits (v 11) (f 11 (lit< tt));
     })
-    (λ f. tt) (λ b h f. subst OfTypes (sym (command_above b v h)) tt) byte
+    (λ f. tt) (λ f. (f 1 (lit< tt), signed_fits (v 2) (f 2 (lit< tt)), signed_fits (v 4) (f 4 (lit< tt))))
+    (λ b h f. subst OfTypes (sym (command_other b v h)) tt) byte
 
 pub types_read : (job : List ℕ) (offset : ℕ) → Bytes job → OfTypes (command_at job offset)
 unfolding command_at

@@ -1,17 +1,17 @@
 -- A command made of operands has those operands and its byte: reading loses nothing. Assumes nothing.
+use mathlib.Core.Bool.{true}
 use mathlib.Core.List.{List, [], ◌∷◌}
 use mathlib.Core.Path.{◌≡◌, refl, ap, subst}
-use Prim.Native.Nat.{ℕ, zero, suc, ◌≤◌, ◌<◌}
-use native.Mathlib.Omega.{arith}
+use Prim.Native.Nat.{ℕ, zero, suc}
 use lib.Dec.{lit<}
 use lib.ListN.{length}
 use Rattle.layout.specs.Forms.{width}
-use Rattle.layout.specs.Layouts.{forms_of, forms_in}
+use Rattle.layout.specs.Layouts.{known, forms_of, forms_in}
 use Rattle.format.specs.Commands.{byte_of, operands_of, command_of}
 use Rattle.layout.proofs.Numbers.{bits_of_signed}
 use Rattle.layout.proofs.OperandsRead.{at, Fit}
-use Rattle.layout.proofs.KnownBytes.{each_byte, forms_above}
-use Rattle.format.proofs.OtherBytes.{command_above}
+use Rattle.layout.proofs.KnownBytes.{each_byte, not_both, no_forms}
+use Rattle.format.proofs.OtherBytes.{command_other}
 
 firsts : ℕ → (ℕ → ℕ) → List ℕ
 firsts zero v = []
@@ -53,20 +53,18 @@ operands_back =
       bits_of_signed (at vs 11) (f 11 (lit< tt)),
     ) (listed_to 15 vs e))
     (λ vs e f. listed_to 5 vs e)
-    (λ b h vs e f. rw (command_above b (at vs) h) (listed_to 0 vs (rw (forms_above b h) at e)))
+    (λ vs e f. rw (bits_of_signed (at vs 2) (f 2 (lit< tt)), bits_of_signed (at vs 4) (f 4 (lit< tt))) (listed_to 8 vs e))
+    (λ b h vs e f. rw (command_other b (at vs) h) (listed_to 0 vs (rw (no_forms b h) at e)))
 
-pub byte_back : (byte : ℕ) (v : ℕ → ℕ) → byte ≤ 10 → byte_of (command_of byte v) ≡ byte
+pub byte_back : (byte : ℕ) (v : ℕ → ℕ) → known byte ≡ true → byte_of (command_of byte v) ≡ byte
 unfolding command_of
 byte_back byte v =
-    each_byte (λ b. b ≤ 10 → byte_of (command_of b v) ≡ b) (λ h. refl) (λ h. refl) (λ h. refl) (λ h. refl) (λ h. refl)
-    (λ h. refl) (λ h. refl) (λ h. refl) (λ h. refl) (λ h. refl) (λ h. refl) (λ b h k. absurd (apart b h k)) byte
-  where
-    apart : (b : ℕ) → 10 < b → b ≤ 10 → ⊥
-    apart b h k = omega arith
+    each_byte (λ b. known b ≡ true → byte_of (command_of b v) ≡ b) (λ h. refl) (λ h. refl) (λ h. refl) (λ h. refl) (λ h. refl)
+    (λ h. refl) (λ h. refl) (λ h. refl) (λ h. refl) (λ h. refl) (λ h. refl) (λ h. refl) (λ b h k. not_both b k h) byte
 
 -- the forms of a command made of operands, at any byte
 pub forms_back : (byte : ℕ) (v : ℕ → ℕ) → forms_of (byte_of (command_of byte v)) ≡ forms_of byte
 unfolding forms_of forms_in command_of
 forms_back byte v =
-    each_byte (λ b. forms_of (byte_of (command_of b v)) ≡ forms_of b) refl refl refl refl refl refl refl refl refl refl refl
-    (λ b h. rw (command_above b v h, forms_above b h)) byte
+    each_byte (λ b. forms_of (byte_of (command_of b v)) ≡ forms_of b) refl refl refl refl refl refl refl refl refl refl refl refl
+    (λ b h. rw (command_other b v h, no_forms b h)) byte

@@ -17,11 +17,10 @@ use Rattle.layout.specs.declared.Form.TheVariants.{Id}
 use Rattle.layout.specs.declared.Kind.{Kind}
 use Rattle.layout.specs.Number.{number}
 use Rattle.layout.specs.Forms.{width, form_in_range}
-use Rattle.layout.specs.Layouts.{forms_of, forms_in, operands_width, byte_of_kind}
+use Rattle.layout.specs.Layouts.{known, forms_of, forms_in, operands_width, byte_of_kind}
 use Rattle.layout.specs.Operands.{offset_of, operand, read_operands}
 use Rattle.layout.proofs.Numbers.{Bytes}
-use Rattle.layout.proofs.KnownBytes.{each_byte, forms_above, known_most}
-use Rattle.layout.proofs.KindBytes.{known_kind}
+use Rattle.layout.proofs.KnownBytes.{each_byte, no_forms}
 use Rattle.layout.proofs.OperandsRead.{at as value_at, offset_first, offset_step, offset_in_command, operand_at, read_length, width_most}
 use Rattle.format.specs.declared.Command.{Command}
 use Rattle.format.specs.Commands.{byte_of, operands_of, command_of, relation_operand, relation_names, operand_at_fault}
@@ -33,8 +32,8 @@ use Rattle.format.proofs.AtFault.{InBefore, operand_found, relation_found}
 pub count_le : (byte : ℕ) → length (forms_of byte) ≤ 16
 unfolding forms_of forms_in
 count_le byte =
-    each_byte (λ b. length (forms_of b) ≤ 16) (lit≤ tt) (lit≤ tt) (lit≤ tt) (lit≤ tt) (lit≤ tt) (lit≤ tt) (lit≤ tt) (lit≤ tt) (lit≤ tt) (lit≤ tt) (lit≤ tt)
-    (λ b h. subst (λ (fs : List Form). length fs ≤ 16) (sym (forms_above b h)) (lit≤ tt)) byte
+    each_byte (λ b. length (forms_of b) ≤ 16) (lit≤ tt) (lit≤ tt) (lit≤ tt) (lit≤ tt) (lit≤ tt) (lit≤ tt) (lit≤ tt) (lit≤ tt) (lit≤ tt) (lit≤ tt) (lit≤ tt) (lit≤ tt)
+    (λ b h. subst (λ (fs : List Form). length fs ≤ 16) (sym (no_forms b h)) (lit≤ tt)) byte
 
 -- the operands of this byte's forms that start at an offset
 abbrev pub operands_from : List ℕ → ℕ → ℕ → List ℕ
@@ -63,22 +62,23 @@ pub record Scanned (job : List ℕ) (byte start : ℕ) (c : Command) : Type 0 wh
   pub operands : operands_of c ≡ operands_from job byte start
 
 -- a command that is made of the operands alone has them
-pub made_scanned : (k : Kind) (bytes : List ℕ) → Bytes bytes → Scanned bytes (byte_of_kind k) 0 (command_of (byte_of_kind k) (operand (byte_of_kind k) bytes 0))
-made_scanned k bytes b =
+pub made_scanned : (k : Kind) (bytes : List ℕ) → known (byte_of_kind k) ≡ true → Bytes bytes → Scanned bytes (byte_of_kind k) 0 (command_of (byte_of_kind k) (operand (byte_of_kind k) bytes 0))
+made_scanned k bytes o b =
     record {
-      byte_is = byte_back (byte_of_kind k) (operand (byte_of_kind k) bytes 0) (known_most (byte_of_kind k) (known_kind k));
+      byte_is = byte_back (byte_of_kind k) (operand (byte_of_kind k) bytes 0) o;
       operands = operands_made (byte_of_kind k) bytes b;
     }
 
 -- the operand that a relation names, or 0
 pub named : (byte : ℕ) → unwrap_or (relation_operand byte) 0 ≡ relation_names byte
 unfolding relation_operand relation_names
-named byte = go (eqb byte 7) (eqb byte 8)
+named byte = go (eqb byte 7) (eqb byte 8) (eqb byte 12)
   where
-    go : (s t : Bool) → ◌≡◌ {A = ℕ} (unwrap_or (cond s (Some 2) (cond t (Some 1) None)) 0) (cond s 2 (cond t 1 0))
-    go true t = refl
-    go false true = refl
-    go false false = refl
+    go : (s t u : Bool) → ◌≡◌ {A = ℕ} (unwrap_or (cond s (Some 2) (cond t (Some 1) (cond u (Some 1) None))) 0) (cond s 2 (cond t 1 (cond u 1 0)))
+    go true t u = refl
+    go false true u = refl
+    go false false true = refl
+    go false false false = refl
 
 -- ---- a step of the loop over the forms of a kind and the bytes of its operands
 
@@ -122,9 +122,9 @@ module _ (k : Kind) (bytes : List ℕ) (fs : List Form) (e : fs ≡ forms_of (by
       value_ranged : {t b : Bool} → t ≡ form_in_range (get_or fs place Id) value → t ≡ b → form_in_range (get_or forms place Id) (value_at (read_operands forms bytes) place) ≡ b
       value_ranged r f = rw (← value_is) (rw e at (sym r ∙ f))
 
-      pub step_found : {t : Bool} → Bytes bytes → t ≡ form_in_range (get_or fs place Id) value → t ≡ false → place ≡ operand_at_fault command
-      step_found b r f =
-          let m = made_scanned k bytes b in
+      pub step_found : {t : Bool} → known (byte_of_kind k) ≡ true → Bytes bytes → t ≡ form_in_range (get_or fs place Id) value → t ≡ false → place ≡ operand_at_fault command
+      step_found o b r f =
+          let m = made_scanned k bytes o b in
           sym (operand_found command (byte_of_kind k) (read_operands forms bytes) m.byte_is m.operands (read_length forms bytes) place there s.ranged (value_ranged r f))
 
       pub step_on : {t : Bool} → t ≡ form_in_range (get_or fs place Id) value → t ≡ true → Scanning bytes (byte_of_kind k) (place + 1) (drop w rest)
@@ -140,8 +140,8 @@ module _ (k : Kind) (bytes : List ℕ) (fs : List Form) (e : fs ≡ forms_of (by
           ranged k l (no q) = s.ranged k (omega arith)
 
   -- all are in range: the relation is broken
-  pub scanned : Bytes bytes → length fs ≤ place → operand_at_fault command ≡ relation_names (byte_of_kind k)
-  scanned b l =
-      let m = made_scanned k bytes b in
+  pub scanned : known (byte_of_kind k) ≡ true → Bytes bytes → length fs ≤ place → operand_at_fault command ≡ relation_names (byte_of_kind k)
+  scanned o b l =
+      let m = made_scanned k bytes o b in
       let n : place ≡ length forms = omega (arith, s.within, rw e at l) in
       relation_found command (byte_of_kind k) (read_operands forms bytes) m.byte_is m.operands (read_length forms bytes) (rw n at s.ranged)

@@ -1,6 +1,6 @@
 -- The commands of a job, with named operands; their order in the file; the range test, which is a test of a command's values; and
--- the operand at fault. 01, "Job commands". The type itself is the code's (src/lib.rt).
-use Rattle.std.specs.Prelude.{Bool, true, false, ◌&&◌, cond, List, [], ◌∷◌, ℕ, suc, eqb, leb, ltb, length, Option, Some, None}
+-- the operand at fault. 01, "Job commands"; 02, No. 9. The type itself is the code's (src/lib.rt).
+use Rattle.std.specs.Prelude.{Bool, true, false, ◌&&◌, ◌||◌, cond, List, [], ◌∷◌, ℕ, suc, eqb, leb, ltb, length, Option, Some, None}
 use Rattle.soil.specs.Reading.{soil_allowed}
 use Rattle.coefficient.specs.declared.Settings.{Settings}
 use Rattle.members.specs.declared.Column.{Column}
@@ -11,10 +11,11 @@ use Rattle.members.specs.declared.Detail.{Detail}
 use Rattle.walls.specs.declared.WallBase.{WallBase}
 use Rattle.walls.specs.declared.Storey.{Storey}
 use Rattle.footing.specs.declared.Footing.{Footing}
+use Rattle.basement.specs.declared.Basement.{Basement}
 use Rattle.layout.specs.declared.Form.{Form}
 pub use Rattle.format.specs.declared.SoilGiven.{SoilGiven}
 pub use Rattle.format.specs.declared.Command.{Command}
-pub use Rattle.format.specs.declared.Command.TheVariants.{Finish as finish, Settings as settings, Joint as joint, Column as column, Beam as beam, Hingeless as hingeless, WallBase as wall_base, Storey as storey, Soil as soil, Footing as footing, Detail as detail}
+pub use Rattle.format.specs.declared.Command.TheVariants.{Finish as finish, Settings as settings, Joint as joint, Column as column, Beam as beam, Hingeless as hingeless, WallBase as wall_base, Storey as storey, Soil as soil, Footing as footing, Detail as detail, Basement as basement}
 use Rattle.layout.specs.Number.{signed32, bits32}
 use Rattle.layout.specs.Forms.{form_in_range}
 use Rattle.layout.specs.Layouts.{forms_of}
@@ -31,6 +32,7 @@ byte_of (storey s) = 7
 byte_of (soil s) = 8
 byte_of (footing f) = 9
 byte_of (detail d) = 10
+byte_of (basement id m) = 12
 
 -- the operands in the file's order, as they stand in it
 abbrev pub operands_of : Command → List ℕ
@@ -46,6 +48,8 @@ operands_of (soil s) = s.kind ∷ s.value ∷ s.sensitive ∷ []
 operands_of (footing f) =
     f.breadth ∷ f.length ∷ f.resistance ∷ f.moment ∷ bits32 f.nv ∷ bits32 f.ne ∷ bits32 f.xv ∷ bits32 f.xe ∷ bits32 f.yv ∷ bits32 f.ye ∷ bits32 f.hv ∷ bits32 f.he ∷ f.uplift ∷ f.passive ∷ f.flags ∷ []
 operands_of (detail d) = d.place ∷ d.ultimate ∷ d.yielded ∷ d.ductility ∷ d.lap ∷ []
+operands_of (basement id m) =
+    m.place ∷ id ∷ bits32 m.nonseismic_shear ∷ m.seismic_shear ∷ bits32 m.nonseismic_moment ∷ m.seismic_moment ∷ m.shear_strength ∷ m.moment_strength ∷ []
 
 -- ---- the commands from their operands: v i is operand i, counted from 0
 
@@ -96,6 +100,18 @@ footing_of v =
 abbrev pub detail_of : (ℕ → ℕ) → Detail
 detail_of v = record { place = v 0; ultimate = v 1; yielded = v 2; ductility = v 3; lap = v 4 }
 
+abbrev pub basement_of : (ℕ → ℕ) → Basement
+basement_of v =
+    record {
+      place = v 0;
+      nonseismic_shear = signed32 (v 2);
+      seismic_shear = v 3;
+      nonseismic_moment = signed32 (v 4);
+      seismic_moment = v 5;
+      shear_strength = v 6;
+      moment_strength = v 7;
+    }
+
 unfoldable pub command_of : ℕ → (ℕ → ℕ) → Command
 command_of byte v =
     cond (eqb byte 1) (settings (settings_of v))
@@ -108,11 +124,12 @@ command_of byte v =
     (cond (eqb byte 8) (soil (soil_given_of v))
     (cond (eqb byte 9) (footing (footing_of v))
     (cond (eqb byte 10) (detail (detail_of v))
-    finish)))))))))
+    (cond (eqb byte 12) (basement (v 1) (basement_of v))
+    finish))))))))))
 
 -- ---- the range test
 
--- the relation between operands where there is one: J ≤ J0, and the soil value by its kind
+-- the relation between operands where there is one: J ≤ J0; the soil value by its kind; the id of a basement member, 0 for a wall
 unfoldable pub related : Command → Bool
 related finish = true
 related (settings s) = true
@@ -125,6 +142,7 @@ related (storey s) = leb s.inertia s.base_inertia
 related (soil s) = soil_allowed s.kind s.value
 related (footing f) = true
 related (detail d) = true
+related (basement id m) = eqb m.place 0 || eqb id 0
 
 unfoldable pub all_in_range : List Form → List ℕ → Bool
 unfolding form_in_range
@@ -146,12 +164,13 @@ first_outside [] vs = 0
 first_outside (f ∷ fs) [] = 0
 first_outside (f ∷ fs) (v ∷ vs) = cond (form_in_range f v) (suc (first_outside fs vs)) 0
 
--- the operand that the relation names where there is one, by the command's byte: J of a storey, the value of a soil
+-- the operand that the relation names where there is one, by the command's byte: J of a storey, the value of a soil, the id of a basement
+-- member
 unfoldable pub relation_operand : ℕ → Option ℕ
-relation_operand byte = cond (eqb byte 7) (Some 2) (cond (eqb byte 8) (Some 1) None)
+relation_operand byte = cond (eqb byte 7) (Some 2) (cond (eqb byte 8) (Some 1) (cond (eqb byte 12) (Some 1) None))
 
 unfoldable pub relation_names : ℕ → ℕ
-relation_names byte = cond (eqb byte 7) 2 (cond (eqb byte 8) 1 0)
+relation_names byte = cond (eqb byte 7) 2 (cond (eqb byte 8) 1 (cond (eqb byte 12) 1 0))
 
 -- first the operands by their own ranges, in order; then, where all are in range, the relation
 unfoldable pub operand_at_fault : Command → ℕ

@@ -1,17 +1,17 @@
 // The commands of a job: one value with its operands, read from their bytes; the range test of its values; the operand at fault.
-// 01, "Job commands".
+// 01, "Job commands"; 02, No. 9.
 // The check opens at each goal what says where operands stand, how wide they are and what their ranges are.
 #![tactic(auto, unfolding(crate::specs::Commands::command_of, crate::specs::Commands::in_range, crate::specs::Commands::all_in_range, crate::specs::Commands::related, layout::specs::Operands::operand, layout::specs::Operands::offset_of, layout::specs::Layouts::operands_width, layout::specs::Layouts::width_of_all, layout::specs::Layouts::forms_of, layout::specs::Layouts::forms_in, layout::specs::Forms::width, layout::specs::Forms::form_in_range))]
 
-ghost use Rattle.std.specs.Prelude.{◌≡◌, ◌+◌, ◌≤◌, length};
+ghost use Rattle.std.specs.Prelude.{◌≡◌, true, ◌+◌, ◌≤◌, length};
 ghost use Rattle.soil.specs.Reading.{soil_allowed};
 ghost use Rattle.layout.specs.declared.Kind.{Kind};
 ghost use Rattle.layout.specs.declared.Kind.TheVariants as kind;
-ghost use Rattle.layout.specs.Layouts.{byte_of_kind, operands_width};
-ghost use Rattle.layout.specs.Operands.{operand, byte_at};
-ghost use Rattle.format.specs.Commands.{Command, byte_of, settings, joint, column, beam, hingeless, wall_base, storey, soil, footing, detail, in_range, relation_operand, relation_names, command_of, operand_at_fault, storey_of};
-ghost use Rattle.format.specs.Reading.{command_at};
+ghost use Rattle.layout.specs.Layouts.{known, byte_of_kind, operands_width};
+ghost use Rattle.format.specs.Commands.{Command, byte_of, settings, joint, column, beam, hingeless, wall_base, storey, soil, footing, detail, basement, in_range, relation_operand, relation_names, operand_at_fault, storey_of};
+ghost use Rattle.format.specs.Reading.{command_in};
 
+use basement::Basement;
 use coefficient::Settings;
 use footing::Footing;
 use layout::{Form, Kind};
@@ -28,7 +28,8 @@ pub struct SoilGiven {
     pub sensitive: u32,
 }
 
-// A command with its operands; a joint under its id, a member without hinges between two joints, by their ids.
+// A command with its operands; a joint under its id, a member without hinges between two joints, by their ids, a basement member by the id
+// of its joint.
 #[derive(Clone, Copy)]
 pub enum Command {
     Finish,
@@ -42,6 +43,7 @@ pub enum Command {
     Soil(SoilGiven),
     Footing(Footing),
     Detail(Detail),
+    Basement(u8, Basement),
 }
 
 // ---- the values of each command
@@ -70,7 +72,7 @@ pub trait Operands: Copy {
     // Read from the bytes behind the command's own.
     fn read(operands: &[u8]) -> Self
         requires { length operands.now ≡ operands_width (byte_of_kind KIND) }
-        ensures { command result ≡ command_of (byte_of_kind KIND) (operand (byte_of_kind KIND) operands.now 0) };
+        ensures { command result ≡ command_in KIND operands.now };
 
     // Whether every operand is in its range, and the relation between them holds.
     fn in_range(self) -> bool
@@ -369,6 +371,41 @@ impl Operands for Detail {
     }
 }
 
+impl Operands for (u8, Basement) {
+    ghost command = { λ x. basement x.0 x.1 };
+
+    ghost KIND = { kind.Basement };
+
+    const KIND: Kind = Kind::Basement;
+
+    fn read(operands: &[u8]) -> (u8, Basement) {
+        (
+            operands[1],
+            Basement {
+                place: layout::unsigned(&operands[0..1]),
+                nonseismic_shear: layout::signed(&operands[2..6]),
+                seismic_shear: layout::unsigned(&operands[6..10]),
+                nonseismic_moment: layout::signed(&operands[10..14]),
+                seismic_moment: layout::unsigned(&operands[14..18]),
+                shear_strength: layout::unsigned(&operands[18..22]),
+                moment_strength: layout::unsigned(&operands[22..26]),
+            },
+        )
+    }
+
+    fn in_range(self) -> bool {
+        let (id, member) = self;
+        Form::HingePlace.in_range(member.place)
+            & Force::signed_in_range(member.nonseismic_shear)
+            & Force::in_range(member.seismic_shear)
+            & Moment::signed_in_range(member.nonseismic_moment)
+            & Moment::in_range(member.seismic_moment)
+            & Force::in_range(member.shear_strength)
+            & Moment::in_range(member.moment_strength)
+            & ((member.place == 0) | (id == 0))
+    }
+}
+
 // ---- a command
 
 impl Command {
@@ -388,6 +425,7 @@ impl Command {
             Command::Soil(_) => Kind::Soil,
             Command::Footing(_) => Kind::Footing,
             Command::Detail(_) => Kind::Detail,
+            Command::Basement(_, _) => Kind::Basement,
         }
     }
 
@@ -408,17 +446,18 @@ impl Command {
             Command::Soil(s) => s.in_range(),
             Command::Footing(f) => f.in_range(),
             Command::Detail(d) => d.in_range(),
+            Command::Basement(id, m) => (id, m).in_range(),
         }
     }
 }
 
-// The operand that the relation between a command's operands names: J of a storey, the value of a soil.
+// The operand that the relation between a command's operands names: J of a storey, the value of a soil, the id of a basement member.
 fn relation_operand(kind: Kind) -> Option<u32>
     ensures { result ≡ relation_operand (byte_of_kind kind) }
 {
     match kind {
         Kind::Storey => Some(2),
-        Kind::Soil => Some(1),
+        Kind::Soil | Kind::Basement => Some(1),
         _ => None,
     }
 }
@@ -426,8 +465,9 @@ fn relation_operand(kind: Kind) -> Option<u32>
 // The operand at fault among a kind's operands. Over the slice itself, as the proof has the ranges of a parameter's bytes, and not those
 // of a field's.
 fn fault_among(kind: Kind, operands: &[u8]) -> u32
-    requires { length operands.now ≡ operands_width (byte_of_kind kind) }
-    ensures { result ≡ operand_at_fault (command_of (byte_of_kind kind) (operand (byte_of_kind kind) operands.now 0)) }
+    requires width { length operands.now ≡ operands_width (byte_of_kind kind) }
+    requires single { known (byte_of_kind kind) ≡ true }
+    ensures { result ≡ operand_at_fault (command_in kind operands.now) }
 {
     let mut rest = operands;
     for (place, form) in kind.forms().iter().enumerate() {
@@ -443,18 +483,20 @@ fn fault_among(kind: Kind, operands: &[u8]) -> u32
 
 // ---- a command as it stands in a file
 
-// A command as it stands in a file: its kind, and the bytes of its operands.
+// A command by itself as it stands in a file: its kind, and the bytes of its operands.
 #[derive(Clone, Copy)]
 pub struct CommandBytes<'a> {
     pub kind: Kind,
     pub operands: &'a [u8],
     ghost width: { length operands.now ≡ operands_width (byte_of_kind kind) },
+    ghost single: { known (byte_of_kind kind) ≡ true },
 }
 
 impl<'a> CommandBytes<'a> {
     // The command of a kind with these bytes of operands.
     pub fn new(kind: Kind, operands: &'a [u8]) -> Self
-        requires { length operands.now ≡ operands_width (byte_of_kind kind) }
+        requires width { length operands.now ≡ operands_width (byte_of_kind kind) }
+        requires single { known (byte_of_kind kind) ≡ true }
         ensures kind { result.kind ≡ kind }
         ensures operands { result.operands ≡ operands.entry }
     {
@@ -464,7 +506,7 @@ impl<'a> CommandBytes<'a> {
     // The command itself, read from its operands.
     #[tactic(auto, unfolding(crate::specs::Commands::command_of))]
     pub fn read(self) -> Command
-        ensures { result ≡ command_of (byte_of_kind self.entry.kind) (operand (byte_of_kind self.entry.kind) self.entry.operands.now 0) }
+        ensures { result ≡ command_in self.entry.kind self.entry.operands.now }
     {
         let operands = self.operands;
         match self.kind {
@@ -485,12 +527,17 @@ impl<'a> CommandBytes<'a> {
             Kind::Soil => Command::Soil(SoilGiven::read(operands)),
             Kind::Footing => Command::Footing(Footing::read(operands)),
             Kind::Detail => Command::Detail(Detail::read(operands)),
+            Kind::Block => unreachable!(),
+            Kind::Basement => {
+                let (id, member) = <(u8, Basement)>::read(operands);
+                Command::Basement(id, member)
+            }
         }
     }
 
     // The operand at fault of a command that is out of range, counted from 0, among its operands.
     pub fn operand_at_fault(self) -> u32
-        ensures { result ≡ operand_at_fault (command_of (byte_of_kind self.entry.kind) (operand (byte_of_kind self.entry.kind) self.entry.operands.now 0)) }
+        ensures { result ≡ operand_at_fault (command_in self.entry.kind self.entry.operands.now) }
     {
         fault_among(self.kind, self.operands)
     }

@@ -18,11 +18,7 @@ use Rattle.job.specs.Placed.{Placed, placed_all, listed_by, listed, placed}
 use Rattle.job.specs.Reached.{reached_from, reached}
 use Rattle.job.specs.Answers.{FaultAnswer, fault_of}
 use Rattle.job.proofs.PlacedCases.{fault_at}
-use Rattle.job.proofs.Refusals.{zeros, settings, finish, begun}
-
--- 4,096 long, 256 thick, no strengths: 25 bytes
-abbrev wall_base : List ℕ
-wall_base = 0x06 ∷ 0x00 ∷ 0x00 ∷ 0x10 ∷ 0x00 ∷ 0x00 ∷ 0x00 ∷ 0x01 ∷ 0x00 ∷ zeros 16
+use Rattle.job.proofs.Refusals.{zeros, settings, wall_base, finish, begun}
 
 -- a set with J and J0: 24 bytes
 abbrev set : ℕ → ℕ → List ℕ

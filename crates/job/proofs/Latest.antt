@@ -8,7 +8,7 @@ use Rattle.std.specs.Prelude.{Option, None, Some}
 use Prim.Native.Nat.{ℕ}
 use lib.Dec.{eqb}
 use Rattle.format.specs.declared.Command.{Command}
-use Rattle.format.specs.declared.Command.TheVariants.{Finish as finish, Settings as settings, Joint as joint, Column as column, Beam as beam, Hingeless as hingeless, WallBase as wall_base, Storey as storey, Soil as soil, Footing as footing, Detail as detail}
+use Rattle.format.specs.declared.Command.TheVariants.{Joint as joint}
 use Rattle.context.specs.Context.{Context, nothing, next}
 use Rattle.job.specs.Placed.{Placed, context_after, accepted, placed}
 use Rattle.job.specs.Earlier.{or_else, latest, settings_in, joint_in, given_under, base_in, latest_settings, latest_joint, latest_base}
@@ -48,17 +48,8 @@ either false a o = refl
 
 given_by : (h : Context) (c : Command) → Given h c
 unfolding next
-given_by h finish = record { settings = refl; joint = λ id. refl; base = refl }
-given_by h (settings s) = record { settings = refl; joint = λ id. refl; base = refl }
 given_by h (joint i j) = record { settings = refl; joint = λ id. either (eqb id i) j (h.joints id); base = refl }
-given_by h (column c) = record { settings = refl; joint = λ id. refl; base = refl }
-given_by h (beam b) = record { settings = refl; joint = λ id. refl; base = refl }
-given_by h (hingeless id1 id2 m) = record { settings = refl; joint = λ id. refl; base = refl }
-given_by h (wall_base b) = record { settings = refl; joint = λ id. refl; base = refl }
-given_by h (storey s) = record { settings = refl; joint = λ id. refl; base = refl }
-given_by h (soil s) = record { settings = refl; joint = λ id. refl; base = refl }
-given_by h (footing f) = record { settings = refl; joint = λ id. refl; base = refl }
-given_by h (detail d) = record { settings = refl; joint = λ id. refl; base = refl }
+given_by h _ = record { settings = refl; joint = λ id. refl; base = refl }
 
 -- what these commands leave from the start on
 module _ (ps : List Placed) where

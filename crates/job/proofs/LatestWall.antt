@@ -121,7 +121,7 @@ module _ (job : List ℕ) (b : Bytes job) (earlier later : List Placed) (e : pla
         by None q = let z : ◌≡◌ {A = Option WallBase} None (Some base) = sym (shows.ordered (ap given q)) ∙ holds in absurd cc
         by (Some s) q = (s, q)
 
-    carried : Carries earlier base
+    pub carried : Carries earlier base
     unfolding wall_of there after
     carried =
         let (s, q) = given_settings in

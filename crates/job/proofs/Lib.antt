@@ -25,4 +25,5 @@ pub mod AlreadyMet
 pub mod TwoWalls
 pub mod Refusals
 pub mod BlockTrial
+pub mod BasementTrial
 pub mod BlocksKeep

@@ -1,5 +1,5 @@
 -- Each placed command of an accepted job stands at an offset of at most 237,512, where 4,095 footings of 58 bytes and the first two bytes
--- of a block end, and its byte is at most 10. Assumes nothing.
+-- of a block end, and its byte is at most 12. Assumes nothing.
 use mathlib.Core.List.{List, [], ◌∷◌, ◌++◌}
 use mathlib.Core.Path.{◌≡◌, subst}
 use Prim.Native.Nat.{ℕ, zero, suc, ◌+◌, ◌*◌, ◌≤◌}
@@ -8,7 +8,7 @@ use lib.ListN.{length}
 use Rattle.layout.proofs.Widths.{width_le}
 use Rattle.walls.specs.declared.Storey.{Storey}
 use Rattle.format.specs.declared.Command.{Command}
-use Rattle.format.specs.declared.Command.TheVariants.{Finish as finish, Settings as settings, Joint as joint, Column as column, Beam as beam, Hingeless as hingeless, WallBase as wall_base, Storey as storey, Soil as soil, Footing as footing, Detail as detail}
+use Rattle.format.specs.declared.Command.TheVariants.{Storey as storey}
 use Rattle.format.specs.Commands.{byte_of}
 use Rattle.blocks.specs.FileCommands.{FileCommand, one, block, file_command_at, width_of, storeys_from, commands_from}
 use Rattle.blocks.proofs.FileCommands.{storeys_many}
@@ -19,18 +19,9 @@ use Rattle.job.proofs.Faultless.{passed}
 use Rattle.job.proofs.PlacedCases.{weight_at, context_behind, rest_after, by_cases, listed_of}
 
 -- a command's byte
-pub byte_most : (c : Command) → byte_of c ≤ 10
-byte_most finish = omega arith
-byte_most (settings s) = omega arith
-byte_most (joint id j) = omega arith
-byte_most (column c) = omega arith
-byte_most (beam b) = omega arith
-byte_most (hingeless id1 id2 m) = omega arith
-byte_most (wall_base b) = omega arith
+pub byte_most : (c : Command) → byte_of c ≤ 12
 byte_most (storey s) = omega arith
-byte_most (soil s) = omega arith
-byte_most (footing f) = omega arith
-byte_most (detail d) = omega arith
+byte_most _ = omega arith
 
 abbrev AllLow : List Placed → Type 0
 AllLow [] = Unit {0}

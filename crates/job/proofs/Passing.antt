@@ -7,7 +7,7 @@ use Prim.Native.Nat.{ℕ, ◌+◌, ◌≤◌, ◌<◌}
 use native.Mathlib.Omega.{arith}
 use native.Mathlib.Nat.{add-zero}
 use lib.ListN.{length, length-map}
-use borrow.Author.Tests.{le-ltb, lt-leb, le-leb, leb-false}
+use borrow.Author.Tests.{le-ltb, lt-leb, leb-false}
 use Rattle.layout.specs.Layouts.{known}
 use Rattle.layout.specs.Operands.{byte_at}
 use Rattle.walls.specs.declared.Storey.{Storey}
@@ -18,7 +18,7 @@ use Rattle.format.specs.Commands.{byte_of, in_range, related, all_in_range as fo
 use Rattle.format.specs.Reading.{command_at}
 use Rattle.blocks.specs.Sets.{is_block, count_at, count_in_range, sets_of, all_in_range}
 use Rattle.blocks.specs.FileCommands.{FileCommand, one, block, file_byte_of, file_command_at, width_of, width_at, storeys_from, commands_from, given as given_by_command, singly}
-use Rattle.layout.proofs.KnownBytes.{known_is}
+use Rattle.format.proofs.OtherBytes.{byte_known}
 use Rattle.blocks.proofs.Sets.{count_range, storeys_length, each_in_range}
 use Rattle.blocks.proofs.FileCommands.{at_block, no_block, one_read, width_block, storeys_many}
 use Rattle.context.specs.Context.{Context, next, given, missing, absent}
@@ -26,7 +26,6 @@ use Rattle.job.specs.Faults.{too_many, passes_limit, misplaced, after_command, c
 use Rattle.job.specs.Placed.{context_after, place_each}
 use Rattle.job.proofs.PlacedCases.{fault_at, weight_at, context_behind}
 use Rattle.job.proofs.Faultless.{or_true, command_fault_lem, block_fault_lem, faultless, block_faultless, count_below, limit_kept}
-use Rattle.job.proofs.Offsets.{byte_most}
 
 -- ---- the tests that depend on a command's values
 
@@ -154,9 +153,6 @@ pub record Whole (job : List ℕ) (at : ℕ) (c : FileCommand) : Type 0 where
   pub read : file_command_at job at ≡ c
   pub width : width_at job at ≡ width_of c
   pub whole : after_command job at ≤ length job
-
-byte_known : (c : Command) → known (byte_of c) ≡ true
-byte_known c = known_is (byte_of c) ∙ le-leb (byte_of c) 10 (byte_most c)
 
 module _ (job : List ℕ) (at : ℕ) (c : Command) (w : Whole job at (one c)) where
   single : is_block (byte_at job at) ≡ false

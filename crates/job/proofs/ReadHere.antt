@@ -8,29 +8,18 @@ use lib.ListN.{length, drop, length-drop}
 use lib.Seq.{length-take-le}
 use Rattle.std.specs.Prelude.{slice_range}
 use Rattle.layout.specs.declared.Kind.{Kind}
-use Rattle.layout.specs.declared.Kind.TheVariants.{Finish, Settings, Joint, Column, Beam, Hingeless, WallBase, Storey, Soil, Footing, Detail}
+use Rattle.layout.specs.declared.Kind.TheVariants.{Finish}
 use Rattle.layout.specs.Layouts.{byte_of_kind, operands_width}
 use Rattle.layout.specs.Operands.{byte_at}
 use Rattle.format.specs.declared.Command.{Command}
-use Rattle.format.specs.Reading.{command_at}
+use Rattle.format.specs.Reading.{command_at, command_in}
 use Rattle.format.proofs.CommandRead.{read_alone}
-use Rattle.blocks.specs.Sets.{count_at, sets_of}
+use Rattle.blocks.specs.Sets.{count_at, sets_of, storeys_in}
 use Rattle.blocks.proofs.Sets.{storeys_of_slice}
-use Rattle.rows.specs.Writing.{storeys_in}
-use Rattle.job.specs.Walking.{command_in}
 
 only_finish : (k : Kind) → byte_of_kind k ≡ 0 → k ≡ Finish
 only_finish Finish e = refl
-only_finish Settings e = absurd (omega arith)
-only_finish Joint e = absurd (omega arith)
-only_finish Column e = absurd (omega arith)
-only_finish Beam e = absurd (omega arith)
-only_finish Hingeless e = absurd (omega arith)
-only_finish WallBase e = absurd (omega arith)
-only_finish Storey e = absurd (omega arith)
-only_finish Soil e = absurd (omega arith)
-only_finish Footing e = absurd (omega arith)
-only_finish Detail e = absurd (omega arith)
+only_finish _ e = absurd (omega arith)
 
 module _ (job : List ℕ) (offset : ℕ) where
   module _ (k : Kind) (q : byte_of_kind k ≡ byte_at job offset) where

@@ -35,7 +35,7 @@ abbrev wrong_settings : List ℕ
 wrong_settings = 0x01 ∷ 0x00 ∷ 0x00 ∷ 0x00 ∷ 0x78 ∷ 0x00 ∷ 0x78 ∷ []
 
 -- the joint 9: 14 bytes
-abbrev joint : List ℕ
+abbrev pub joint : List ℕ
 joint = 0x02 ∷ 0x09 ∷ zeros 12
 
 -- 3,000 long: 29 bytes
@@ -49,6 +49,10 @@ wrong_column = 0x03 ∷ zeros 28
 -- between the joints 9 and 10: 23 bytes
 abbrev hingeless : List ℕ
 hingeless = 0x05 ∷ 0x00 ∷ 0x00 ∷ 0x0b ∷ 0xb8 ∷ 0x09 ∷ 0x0a ∷ zeros 16
+
+-- 4,096 long, 256 thick, no strengths: 25 bytes
+abbrev pub wall_base : List ℕ
+wall_base = 0x06 ∷ 0x00 ∷ 0x00 ∷ 0x10 ∷ 0x00 ∷ 0x00 ∷ 0x00 ∷ 0x01 ∷ 0x00 ∷ zeros 16
 
 -- J 1, J0 1: 25 bytes
 abbrev pub storey : List ℕ
@@ -72,7 +76,7 @@ pub record Numbers : Type 0 where
   pub no_end : placed settings ≡ refused 1 7
   pub no_end_later : placed (settings ++ column) ≡ refused 1 36
   pub cut_short_lem : placed (settings ++ 0x03 ∷ zeros 27) ≡ refused 1 7
-  pub unknown_command : placed (settings ++ 0x0c ∷ []) ≡ refused 2 7
+  pub unknown_command : placed (settings ++ 0x0e ∷ []) ≡ refused 2 7
   pub after_end : placed (settings ++ finish ++ finish) ≡ refused 3 8
   pub end_first : placed finish ≡ refused 4 0
   pub end_first_more : placed (finish ++ finish) ≡ refused 4 0
@@ -129,7 +133,7 @@ begun = next nothing (command_at settings 0)
 
 -- the jobs
 abbrev unknown_first : List ℕ
-unknown_first = 0x0c ∷ []
+unknown_first = 0x0e ∷ []
 
 abbrev column_cut : List ℕ
 column_cut = 0x03 ∷ zeros 27

@@ -18,10 +18,10 @@ use Rattle.std.specs.Prelude.{Option, None, Some}
 use Rattle.walls.specs.declared.Wall.{Wall}
 use Rattle.walls.specs.declared.Storey.{Storey}
 use Rattle.format.specs.declared.Command.{Command}
-use Rattle.format.specs.declared.Command.TheVariants.{Finish as finish, Settings as settings, Joint as joint, Column as column, Beam as beam, Hingeless as hingeless, WallBase as wall_base, Storey as storey, Soil as soil, Footing as footing, Detail as detail}
+use Rattle.format.specs.declared.Command.TheVariants.{Finish as finish, Settings as settings}
 use Rattle.format.specs.Commands.{byte_of, command_of, in_range}
 use Rattle.format.specs.Reading.{command_at}
-use Rattle.format.proofs.OtherBytes.{command_above}
+use Rattle.format.proofs.OtherBytes.{command_other}
 use Rattle.blocks.specs.Sets.{is_block, sets_of, all_in_range}
 use Rattle.blocks.proofs.Sets.{each_in_range}
 use Rattle.blocks.specs.FileCommands.{file_command_at, storeys_from, commands_from}
@@ -47,7 +47,7 @@ ids_fit : (byte : ℕ) (v : ℕ → ℕ) → Fit byte v → IdsFit (command_of b
 unfolding command_of forms_of forms_in width
 ids_fit byte v =
     each_byte (λ b. Fit b v → IdsFit (command_of b v)) (λ f. tt) (λ f. tt) (λ f. f 0 (lit< tt)) (λ f. tt) (λ f. tt) (λ f. (f 1 (lit< tt), f 2 (lit< tt))) (λ f. tt) (λ f. tt) (λ f. tt) (λ f. tt) (λ f. tt)
-    (λ b h f. subst IdsFit (sym (command_above b v h)) tt) byte
+    (λ f. f 1 (lit< tt)) (λ b h f. subst IdsFit (sym (command_other b v h)) tt) byte
 
 pub ids_read : (job : List ℕ) (offset : ℕ) → Bytes job → IdsFit (command_at job offset)
 unfolding command_at
@@ -83,15 +83,7 @@ in_place : (t : State) (c : Command) → misplaced (byte_of c) (given t.settings
 unfolding misplaced
 in_place t finish e = tt
 in_place t (settings s) e = first_place_lem (given t.settings) e
-in_place t (joint id j) e = later_place (given t.settings) e
-in_place t (column c) e = later_place (given t.settings) e
-in_place t (beam b) e = later_place (given t.settings) e
-in_place t (hingeless id1 id2 m) e = later_place (given t.settings) e
-in_place t (wall_base b) e = later_place (given t.settings) e
-in_place t (storey s) e = later_place (given t.settings) e
-in_place t (soil s) e = later_place (given t.settings) e
-in_place t (footing f) e = later_place (given t.settings) e
-in_place t (detail d) e = later_place (given t.settings) e
+in_place t _ e = later_place (given t.settings) e
 
 -- ---- one command, then the others
 

@@ -14,13 +14,13 @@ use Rattle.layout.specs.Operands.{byte_at}
 use Rattle.format.specs.declared.Command.{Command}
 use Rattle.format.specs.Commands.{byte_of, in_range}
 use Rattle.format.specs.Reading.{command_at}
-use Rattle.blocks.specs.Sets.{is_block, count_at, sets_of}
+use Rattle.blocks.specs.Sets.{is_block, count_at, sets_of, storeys_in}
 use Rattle.blocks.specs.FileCommands.{one, file_command_at, storeys_from, commands_from}
 use Rattle.blocks.proofs.Sets.{storeys_length}
 use Rattle.blocks.proofs.FileCommands.{at_one, at_block, width_one, width_block, storeys_many}
 use Rattle.context.specs.Running.{JointTable, running, next_state, next_joints}
 use Rattle.rows.specs.Rows.{row_count, words}
-use Rattle.rows.specs.Writing.{rows_from, storeys_in, set_rows_running, stored_all}
+use Rattle.rows.specs.Writing.{rows_from, set_rows_running, stored_all}
 use Rattle.job.specs.declared.Place.{Place}
 use Rattle.job.specs.Faults.{after_command, operand_named}
 use Rattle.job.specs.declared.Refusal.{Refusal}

@@ -6,7 +6,7 @@ use Rattle.coefficient.specs.declared.Settings.{Settings}
 use Rattle.members.specs.declared.Joint.{Joint}
 use Rattle.walls.specs.declared.WallBase.{WallBase}
 use Rattle.format.specs.declared.Command.{Command}
-use Rattle.format.specs.declared.Command.TheVariants.{Finish as finish, Settings as settings, Joint as joint, Column as column, Beam as beam, Hingeless as hingeless, WallBase as wall_base, Storey as storey, Soil as soil, Footing as footing, Detail as detail}
+use Rattle.format.specs.declared.Command.TheVariants.{Settings as settings, Joint as joint, WallBase as wall_base}
 use Rattle.blocks.specs.FileCommands.{width_of}
 use Rattle.job.specs.Placed.{Placed, Entry}
 
@@ -23,31 +23,13 @@ latest gives [] = None
 latest gives (p ∷ ps) = or_else (latest gives ps) (gives p.command)
 
 abbrev pub settings_in : Command → Option Settings
-settings_in finish = None
 settings_in (settings s) = Some s
-settings_in (joint id j) = None
-settings_in (column c) = None
-settings_in (beam b) = None
-settings_in (hingeless id1 id2 m) = None
-settings_in (wall_base b) = None
-settings_in (storey s) = None
-settings_in (soil s) = None
-settings_in (footing f) = None
-settings_in (detail d) = None
+settings_in _ = None
 
 -- id and sums of a joint; another command has none
 abbrev pub joint_in : Command → Option (ℕ × Joint)
-joint_in finish = None
-joint_in (settings s) = None
 joint_in (joint id j) = Some (id, j)
-joint_in (column c) = None
-joint_in (beam b) = None
-joint_in (hingeless id1 id2 m) = None
-joint_in (wall_base b) = None
-joint_in (storey s) = None
-joint_in (soil s) = None
-joint_in (footing f) = None
-joint_in (detail d) = None
+joint_in _ = None
 
 -- the joint that a command gives under an id
 abbrev pub given_under : ℕ → Option (ℕ × Joint) → Option Joint
@@ -55,17 +37,8 @@ given_under id None = None
 given_under id (Some (i, j)) = cond (eqb id i) (Some j) None
 
 abbrev pub base_in : Command → Option WallBase
-base_in finish = None
-base_in (settings s) = None
-base_in (joint id j) = None
-base_in (column c) = None
-base_in (beam b) = None
-base_in (hingeless id1 id2 m) = None
 base_in (wall_base b) = Some b
-base_in (storey s) = None
-base_in (soil s) = None
-base_in (footing f) = None
-base_in (detail d) = None
+base_in _ = None
 
 abbrev pub latest_settings : List Placed → Option Settings
 latest_settings ps = latest settings_in ps

@@ -1,10 +1,9 @@
 -- The walk in the shape of the code. proofs/ joins it to the placed commands. `room` tells whether rows are to be written.
 use Rattle.std.specs.Prelude.{◌≡◌, None, Bool, true, not, cond, List, [], ◌∷◌, ◌++◌, map, Result, Ok, Err, ℕ, zero, suc, ◌+◌, ◌-◌, ◌*◌, ◌≤◌, ◌<◌, eqb, leb, ltb, ℤ, length, replicate}
-use Rattle.layout.specs.declared.Kind.{Kind}
-use Rattle.layout.specs.Layouts.{known, byte_of_kind, operands_width}
-use Rattle.layout.specs.Operands.{byte_at, operand}
+use Rattle.layout.specs.Layouts.{known, operands_width}
+use Rattle.layout.specs.Operands.{byte_at}
 use Rattle.format.specs.declared.Command.{Command}
-use Rattle.format.specs.Commands.{byte_of, command_of}
+use Rattle.format.specs.Commands.{byte_of}
 use Rattle.format.specs.Reading.{command_at}
 use Rattle.blocks.specs.Sets.{is_block, count_at, sets_of}
 use Rattle.blocks.specs.FileCommands.{file_command_at, commands_from}
@@ -35,10 +34,6 @@ early_tests bytes at byte count settings_given =
 
 unfoldable pub early_fault : ℕ → ℕ → ℕ → ℕ → Bool → ℕ
 early_fault bytes at byte count settings_given = first_of (early_tests bytes at byte count settings_given)
-
--- the command of a kind, from the bytes of its operands
-abbrev pub command_in : Kind → List ℕ → Command
-command_in kind operands = command_of (byte_of_kind kind) (operand (byte_of_kind kind) operands 0)
 
 -- the two that need the command: by the state and the joints that are given
 abbrev pub late_tests : State → JointTable → Command → List (Bool × ℕ)

@@ -9,11 +9,12 @@ ghost use Rattle.rows.specs.Rows.{row_count, words};
 ghost use Rattle.rows.specs.Writing.{rows_from, stored_all};
 ghost use Rattle.layout.specs.Layouts.{operands_width, byte_of_kind};
 ghost use Rattle.format.specs.Commands.{byte_of, in_range};
-ghost use Rattle.blocks.specs.Sets.{count_at};
+ghost use Rattle.format.specs.Reading.{command_in};
+ghost use Rattle.blocks.specs.Sets.{is_block, count_at};
 ghost use Rattle.blocks.specs.FileCommands.{one, file_command_at};
 ghost use Rattle.job.specs.Faults.{too_many, misplaced, operand_named};
 ghost use Rattle.job.specs.Refusals.{number_of, operand_of, number_due, operand_due};
-ghost use Rattle.job.specs.Walking.{early_fault, command_in, late_fault, block_fault, first_place, walk_from, WalkAsks, Stretched, BlockAsks, BlockStepped, walk_answer, walked_fault};
+ghost use Rattle.job.specs.Walking.{early_fault, late_fault, block_fault, first_place, walk_from, WalkAsks, Stretched, BlockAsks, BlockStepped, walk_answer, walked_fault};
 ghost use Rattle.job.specs.Answers.{row_count_answer, size_of, fault_answer, fault_of};
 
 use context::{Held, Joints, State};
@@ -144,10 +145,11 @@ fn misplaced_settings(command: Kind, given: bool) -> bool
     }
 }
 
-// The bytes of the command at a place, by its byte, or the refusal 2, 1, 8 or 4, in this order.
+// The bytes of the command by itself at a place, by its byte, or the refusal 2, 1, 8 or 4, in this order.
 #[tactic(auto, using(layout::proofs::KindBytes::byte_of_found, layout::proofs::KindBytes::known_found, layout::proofs::KindBytes::unknown), unfolding(crate::specs::Walking::early_fault))]
 fn test_early<'a>(job: &'a [u8], place: &Place, byte: u8) -> Result<CommandBytes<'a>, Refused>
     requires inside { place.now.offset < length job.now }
+    requires single { is_block byte ≡ false }
     ensures number { number_due result ≡ early_fault (length job.now) place.now.offset byte place.now.count (given place.now.state.settings) }
     ensures operand { operand_due result ≡ 0 }
     ensures offset { IfErr result (λ r. r.offset ≡ place.now.offset) }

@@ -10,7 +10,7 @@ use lib.ListN.{length, get_or, take, drop}
 use lib.Seq.{drop-drop, take-take}
 use Rattle.std.proofs.lemmas.List.{drop-take}
 use Rattle.layout.specs.declared.Form.{Form}
-use Rattle.layout.specs.declared.Form.TheVariants.{Id, Behaviour, Overstrength, MemberLength, Moment, Force, SignedMoment, SignedForce, WallLength, Inertia, SoilKind, SoilValue, YesNo, Side, FootingFlags, Place, Depth, Ductility}
+use Rattle.layout.specs.declared.Form.TheVariants.{Id, Behaviour, Overstrength, MemberLength, Moment, Force, SignedMoment, SignedForce, WallLength, Inertia, SoilKind, SoilValue, YesNo, Side, FootingFlags, Place, Depth, Ductility, HingePlace}
 use Rattle.layout.specs.Number.{number}
 use Rattle.layout.specs.Forms.{width}
 use Rattle.layout.specs.Layouts.{forms_of, width_of_all, operands_width}
@@ -81,6 +81,7 @@ width_is FootingFlags = inl refl
 width_is Place = inl refl
 width_is Depth = inr (inl refl)
 width_is Ductility = inr (inl refl)
+width_is HingePlace = inl refl
 
 pub width_most : (f : Form) → width f ≤ 4
 width_most f = by (width_is f)

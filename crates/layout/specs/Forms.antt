@@ -3,7 +3,7 @@ use Rattle.std.specs.Prelude.{Bool, true, ℕ}
 use Rattle.quantity.specs.Range.{Range, within, within_signed}
 use Rattle.quantity.specs.Quantities.{force_limit, moment_limit, force, moment, member_length, wall_length, side, behaviour, overstrength}
 use Rattle.layout.specs.declared.Form.{Form}
-use Rattle.layout.specs.declared.Form.TheVariants.{Id, Behaviour, Overstrength, MemberLength, Moment, Force, SignedMoment, SignedForce, WallLength, Inertia, SoilKind, SoilValue, YesNo, Side, FootingFlags, Place, Depth, Ductility}
+use Rattle.layout.specs.declared.Form.TheVariants.{Id, Behaviour, Overstrength, MemberLength, Moment, Force, SignedMoment, SignedForce, WallLength, Inertia, SoilKind, SoilValue, YesNo, Side, FootingFlags, Place, Depth, Ductility, HingePlace}
 use Rattle.layout.specs.Number.{signed32}
 
 -- u8, u16, u32, i32, f32
@@ -26,6 +26,7 @@ width FootingFlags = 1
 width Place = 1
 width Depth = 2
 width Ductility = 2
+width HingePlace = 1
 
 abbrev pub to : ℕ → ℕ → Range
 to least greatest = record { least = least; greatest = greatest }
@@ -50,3 +51,4 @@ form_in_range FootingFlags x = within (to 0 7) x
 form_in_range Place x = within (to 0 2) x
 form_in_range Depth x = within (to 0 1000) x
 form_in_range Ductility x = within (to 1000 2000) x
+form_in_range HingePlace x = within (to 0 1) x

@@ -1,9 +1,9 @@
--- The layout of each command: its byte, then its operands in order. 01, "Job commands".
+-- The layout of each command: its byte, then its operands in order. 01, "Job commands"; 02, No. 9.
 use Rattle.std.specs.Prelude.{Bool, true, false, cond, List, [], ◌∷◌, ℕ, ◌+◌, eqb, Option, Some, None}
 use Rattle.layout.specs.declared.Form.{Form}
-use Rattle.layout.specs.declared.Form.TheVariants.{Id, Behaviour, Overstrength, MemberLength, Moment, Force, SignedMoment, SignedForce, WallLength, Inertia, SoilKind, SoilValue, YesNo, Side, FootingFlags, Place, Depth, Ductility}
+use Rattle.layout.specs.declared.Form.TheVariants.{Id, Behaviour, Overstrength, MemberLength, Moment, Force, SignedMoment, SignedForce, WallLength, Inertia, SoilKind, SoilValue, YesNo, Side, FootingFlags, Place, Depth, Ductility, HingePlace}
 use Rattle.layout.specs.declared.Kind.{Kind}
-use Rattle.layout.specs.declared.Kind.TheVariants.{Finish, Settings, Joint, Column, Beam, Hingeless, WallBase, Storey, Soil, Footing, Detail}
+use Rattle.layout.specs.declared.Kind.TheVariants.{Finish, Settings, Joint, Column, Beam, Hingeless, WallBase, Storey, Soil, Footing, Detail, Block, Basement}
 use Rattle.layout.specs.Forms.{width}
 
 abbrev pub layouts : List (ℕ × List Form)
@@ -33,6 +33,8 @@ layouts =
     )
     -- detail: place; xu, xy; mu; lap
     ∷ (10, Place ∷ Depth ∷ Depth ∷ Ductility ∷ YesNo ∷ [])
+    -- basement member: place of the nearest hinge; joint id; VV, VE; MV, ME; VR; MR
+    ∷ (12, HingePlace ∷ Id ∷ SignedForce ∷ Force ∷ SignedMoment ∷ Moment ∷ Force ∷ Moment ∷ [])
     ∷ []
 
 unfoldable pub known_in : List (ℕ × List Form) → ℕ → Bool
@@ -43,7 +45,7 @@ unfoldable pub forms_in : List (ℕ × List Form) → ℕ → List Form
 forms_in [] byte = []
 forms_in (l ∷ ls) byte = cond (eqb byte l.0) l.1 (forms_in ls byte)
 
--- the byte is that of a command
+-- the byte is that of a command by itself
 unfoldable pub known : ℕ → Bool
 unfolding known_in
 known byte = known_in layouts byte
@@ -63,7 +65,7 @@ unfoldable pub operands_width : ℕ → ℕ
 unfolding forms_of width_of_all
 operands_width byte = width_of_all (forms_of byte)
 
--- ---- the kinds of commands
+-- ---- the kinds of commands: those above, and a block, whose count and sets have no fixed width (`blocks`)
 
 -- the byte of each
 abbrev pub byte_of_kind : Kind → ℕ
@@ -78,6 +80,8 @@ byte_of_kind Storey = 7
 byte_of_kind Soil = 8
 byte_of_kind Footing = 9
 byte_of_kind Detail = 10
+byte_of_kind Block = 11
+byte_of_kind Basement = 12
 
 -- the kind of a byte; a byte that is no command's has none
 unfoldable pub kind_of : ℕ → Option Kind
@@ -93,4 +97,6 @@ kind_of byte =
     (cond (eqb byte 8) (Some Soil)
     (cond (eqb byte 9) (Some Footing)
     (cond (eqb byte 10) (Some Detail)
-    None))))))))))
+    (cond (eqb byte 11) (Some Block)
+    (cond (eqb byte 12) (Some Basement)
+    None))))))))))))

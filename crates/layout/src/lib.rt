@@ -1,5 +1,5 @@
 // The layout of a job's commands: the forms of operands with their widths and ranges, the kinds of commands with the operands of each
-// in order, and the numbers of a file. 01, "Job commands".
+// in order, and the numbers of a file. 01, "Job commands"; 02, No. 9.
 #![tactic(auto)]
 
 ghost use Rattle.std.specs.Prelude.{◌≡◌, ◌+◌, ◌≤◌, ◌<◌, length, get_or, take, drop, MatchResult, Some, None};
@@ -30,6 +30,7 @@ pub enum Form {
     Place,
     Depth,
     Ductility,
+    HingePlace,
 }
 
 // The ranges that are no quantity's.
@@ -50,6 +51,8 @@ pub const GREATEST_DEPTH: u32 = 1000;
 pub const LEAST_DUCTILITY: u32 = 1000;
 
 pub const GREATEST_DUCTILITY: u32 = 2000;
+
+pub const GREATEST_HINGE_PLACE: u32 = 1;
 
 impl Form {
     // The bytes of an operand.
@@ -76,6 +79,7 @@ impl Form {
             Form::Place => 1,
             Form::Depth => 2,
             Form::Ductility => 2,
+            Form::HingePlace => 1,
         }
     }
 
@@ -103,11 +107,13 @@ impl Form {
             Form::Place => quantity::between(value, 0, GREATEST_PLACE),
             Form::Depth => quantity::between(value, 0, GREATEST_DEPTH),
             Form::Ductility => quantity::between(value, LEAST_DUCTILITY, GREATEST_DUCTILITY),
+            Form::HingePlace => quantity::between(value, 0, GREATEST_HINGE_PLACE),
         }
     }
 }
 
-// The kinds of commands, in the order of their bytes.
+// The kinds of commands, each numbered as its byte. A block is one, though its count and sets (`blocks`) have no fixed width: with no gap in the
+// numbers a byte is its kind as it stands.
 #[derive(Clone, Copy)]
 pub enum Kind {
     Finish,
@@ -121,6 +127,8 @@ pub enum Kind {
     Soil,
     Footing,
     Detail,
+    Block,
+    Basement,
 }
 
 // A byte that no command begins with.
@@ -147,6 +155,8 @@ impl TryFrom<u8> for Kind {
             8 => Ok(Kind::Soil),
             9 => Ok(Kind::Footing),
             10 => Ok(Kind::Detail),
+            11 => Ok(Kind::Block),
+            12 => Ok(Kind::Basement),
             _ => Err(UnknownByte),
         }
     }
@@ -161,25 +171,18 @@ impl From<Kind> for u8 {
     }
 }
 
+// The bytes of the operands of each kind, in the order of the kinds; those of a block have no fixed width. A static stands once in the
+// program, and a width is one load from it; a match becomes jumps in the walk, where its byte is compared with that of a block.
+static WIDTHS: [usize; 13] = [0, 6, 13, 28, 32, 22, 24, 24, 6, 57, 8, 0, 26];
+
 impl Kind {
-    // The bytes of its operands. A table: as the sum over `forms`, which is proved as well, `run` takes 1.4 to 1.8 times the instructions.
-    #[tactic(auto, unfolding(crate::specs::Layouts::operands_width, crate::specs::Layouts::width_of_all, crate::specs::Layouts::forms_of, crate::specs::Layouts::forms_in, crate::specs::Forms::width))]
+    // The bytes of its operands, where they have a fixed width. A table: as the sum over `forms`, which is proved as well, `run` takes 1.4 to
+    // 1.8 times the instructions.
+    #[tactic(auto, using(crate::proofs::Widths::bytes_few, crate::proofs::Widths::is_widths))]
     pub fn width(self) -> usize
         ensures { result ≡ operands_width (byte_of_kind self) }
     {
-        match self {
-            Kind::Finish => 0,
-            Kind::Settings => 6,
-            Kind::Joint => 13,
-            Kind::Column => 28,
-            Kind::Beam => 32,
-            Kind::Hingeless => 22,
-            Kind::WallBase => 24,
-            Kind::Storey => 24,
-            Kind::Soil => 6,
-            Kind::Footing => 57,
-            Kind::Detail => 8,
-        }
+        WIDTHS[usize::from(u8::from(self))]
     }
 
     // The forms of its operands, in order.
@@ -188,7 +191,7 @@ impl Kind {
         ensures { result.now ≡ forms_of (byte_of_kind self) }
     {
         match self {
-            Kind::Finish => &[],
+            Kind::Finish | Kind::Block => &[],
             // q, gj, gf
             Kind::Settings => &[Form::Behaviour, Form::Overstrength, Form::Overstrength],
             // id; RB, RC, EB
@@ -269,6 +272,17 @@ impl Kind {
                 Form::Depth,
                 Form::Ductility,
                 Form::YesNo,
+            ],
+            // place, id; VV, VE; MV, ME; VR, MR
+            Kind::Basement => &[
+                Form::HingePlace,
+                Form::Id,
+                Form::SignedForce,
+                Form::Force,
+                Form::SignedMoment,
+                Form::Moment,
+                Form::Force,
+                Form::Moment,
             ],
         }
     }

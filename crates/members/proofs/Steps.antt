@@ -9,9 +9,9 @@ use mir.Val.{SFits, to_z, of_z}
 use mir.Facts.{to_z-of_z}
 use Rattle.exact.specs.Quotient.{up}
 use Rattle.exact.specs.Fraction.{Fraction, Proper, ratio, whole, smaller, up_f, ◌*F◌}
-use Rattle.exact.specs.SignedFraction.{whole_s, signed, ratio_s, ◌+S◌, ◌-S◌}
-use Rattle.exact.proofs.Integers.{fits_size, negated, above_neg, below_neg, nat_abs_+ℤ, nat_abs_neg}
+use Rattle.exact.proofs.Integers.{fits_size, nat_abs_+ℤ, nat_abs_neg}
 use Rattle.exact.proofs.Rounding.{up_le_of}
+use Rattle.actions.specs.Ranges.{ActionFits}
 use Rattle.coefficient.specs.declared.Quotient.{Quotient}
 use Rattle.coefficient.specs.declared.Settings.{Settings}
 use Rattle.coefficient.specs.Coefficient.{fraction, coefficient_of}
@@ -53,16 +53,16 @@ up_at_most_second x y p h =
     let s = smaller x y in
     up_le_of s.num s.den y.num p (omega (arith, smaller_≤_second x y, mul-le-mul_left s.num h))
 
--- ---- V0 plus or minus D
+-- ---- V0 plus or minus D: an action with D for a and 1 for E
 
--- minus D's numerator, as the code reads it back
-pub negated_back : (n : ℕ) → n ≤ 280000000000 → to_z w64 (of_z w64 (pos 0 -ℤ to_z w64 n)) ≡ neg_ℤ (pos n)
-negated_back n h =
-    let k : to_z w64 n ≡ pos n = to_z-of_z (fits64 (pos n) (omega arith)) in
-    rw (k, negated (pos n)) (read64 (neg_ℤ (pos n)) (omega (arith, nat_abs_neg (pos n))))
-
-pub difference : (V0 : ℤ) (n d : ℕ) → whole_s V0 +S ratio_s (neg_ℤ (pos n)) d ≡ whole_s V0 -S signed (ratio n d)
-difference V0 n d = rw (above_neg (pos n), below_neg (pos n))
+pub shear_fits : (V0 : ℤ) (D : Quotient) → nat_abs V0 ≤ 100000000 → ShearFits D → ActionFits D V0 (pos 1)
+shear_fits V0 D h b =
+    record {
+      part = record { factor = b.num; product = omega (arith, b.num) };
+      positive = b.positive;
+      den = omega (arith, b.den);
+      steady = h;
+    }
 
 -- ---- the moments and the shear of a member without hinges
 

@@ -1,5 +1,5 @@
 -- What the steps that members share ask of their operands, so that each number on the way fits 64 bits.
-use Rattle.std.specs.Prelude.{ℕ, ◌≤◌, ◌<◌, ℤ, nat_abs}
+use Rattle.std.specs.Prelude.{ℕ, ◌≤◌, ◌<◌}
 use Rattle.coefficient.specs.declared.Quotient.{Quotient}
 
 -- the smaller of k·S/length and q·VE/d
@@ -18,8 +18,3 @@ pub record ShearFits (D : Quotient) : Type 0 where
   pub positive : 0 < D.den
   pub num : D.num ≤ 280000000000
   pub den : D.den ≤ 100000
-
--- V0 plus or minus D
-pub record AddRange (V0 : ℤ) (D : Quotient) : Type 0 where
-  pub nonseismic : nat_abs V0 ≤ 100000000
-  pub shear : ShearFits D

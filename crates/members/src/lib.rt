@@ -10,13 +10,13 @@ ghost use Rattle.claims.specs.Verdict.{flag};
 ghost use Rattle.coefficient.specs.Coefficient.{fraction, CoefficientRange};
 ghost use Rattle.members.specs.Column.{column_row, ColumnRange};
 ghost use Rattle.members.specs.Beam.{beam_row, BeamRange};
-ghost use Rattle.members.specs.Hingeless.{end_moment, rounded_shear, hingeless_row, HingelessRange};
+ghost use Rattle.members.specs.Hingeless.{joint_coefficient, end_moment, rounded_shear, hingeless_row, HingelessRange};
 ghost use Rattle.members.specs.Detail.{detail_row, DetailRange};
-ghost use Rattle.members.specs.Steps.{ShearRange, ShearFits, AddRange};
+ghost use Rattle.members.specs.Steps.{ShearRange, ShearFits};
 
+use actions::Sign;
 use claims::Row;
 use coefficient::{Limited, Quotient, Settings};
-use exact::Sum;
 
 // R1, R2 of the plus and of the minus direction, VE the seismic shear, VR the shear strength. The range of this struct and of each below is
 // no ghost field: one contract asks for it, or two.
@@ -102,22 +102,6 @@ fn capacity_shear(
     )
 }
 
-// V0 + D, up.
-fn upper_shear(nonseismic: i32, shear: Quotient) -> i64
-    requires { AddRange nonseismic shear }
-    ensures { result ≡ up_s (whole_s nonseismic +S signed (fraction shear)) }
-{
-    Sum::new(i64::from(nonseismic), shear.num as i64, shear.den).up()
-}
-
-// V0 − D, down. Not one function with the one above: they differ in the sign and the rounding, each one line over `Sum`.
-fn lower_shear(nonseismic: i32, shear: Quotient) -> i64
-    requires { AddRange nonseismic shear }
-    ensures { result ≡ down_s (whole_s nonseismic -S signed (fraction shear)) }
-{
-    Sum::new(i64::from(nonseismic), -(shear.num as i64), shear.den).down()
-}
-
 // Bit 1 where upper or minus lower exceeds VR.
 fn shears_verdict(upper: i64, lower: i64, strength: u32) -> i64
     ensures { result ≡ pos (flag 1 (lt_z (pos strength) upper || lt_z (pos strength) (neg_ℤ lower))) }
@@ -155,8 +139,9 @@ pub fn beam_row(behaviour: u32, b: Beam) -> Row
     let minus = u64::from(b.minus1) + u64::from(b.minus2);
     let added = capacity_shear(1200, plus, b.length, behaviour, b.shear, 120);
     let taken = capacity_shear(1200, minus, b.length, behaviour, b.shear, 120);
-    let upper = upper_shear(b.nonseismic, added.value);
-    let lower = lower_shear(b.nonseismic, taken.value);
+    // V0 + D and V0 − D: D for a, 1 for E
+    let upper = actions::action(added.value, b.nonseismic, 1, Sign::Plus).up();
+    let lower = actions::action(taken.value, b.nonseismic, 1, Sign::Minus).down();
     Row {
         word2: upper,
         word3: lower,
@@ -167,6 +152,15 @@ pub fn beam_row(behaviour: u32, b: Beam) -> Row
     }
 }
 
+// a of a joint.
+pub fn joint_coefficient(settings: Settings, j: Joint) -> Quotient
+    requires { CoefficientRange settings.joints (min j.beams j.columns) j.seismic settings.behaviour }
+    ensures { fraction result ≡ joint_coefficient settings j }
+{
+    let resistance = j.beams.min(j.columns);
+    coefficient::coefficient(settings.joints, resistance, j.seismic, settings.behaviour).value
+}
+
 // m = a·ME, up; a is that of the end's joint.
 fn end_moment(settings: Settings, j: Joint, moment: u32) -> u64
     requires range { CoefficientRange settings.joints (min j.beams j.columns) j.seismic settings.behaviour }
@@ -174,13 +168,7 @@ fn end_moment(settings: Settings, j: Joint, moment: u32) -> u64
     ensures value { result ≡ end_moment settings j moment }
     ensures bound { result ≤ 400000000 }
 {
-    let a = coefficient::coefficient(
-        settings.joints,
-        j.beams.min(j.columns),
-        j.seismic,
-        settings.behaviour,
-    );
-    coefficient::product_up(a.value, moment)
+    coefficient::product_up(joint_coefficient(settings, j), moment)
 }
 
 // D = 1000·(m1 + m2)/length, up.

@@ -1,11 +1,10 @@
 -- The last bytes of a number of 32 bits are that number with its most significant byte first. Assumes nothing.
-use mathlib.Core.List.{List, [], ◌∷◌, ◌++◌, append-nil}
+use mathlib.Core.List.{List, [], ◌∷◌}
 use mathlib.Core.Path.{◌≡◌, refl, sym, ap}
 use Prim.Native.Nat.{ℕ, zero, suc, ◌-◌, ◌/◌, ◌%◌, ◌^◌, ◌≤◌}
 use native.Mathlib.Nat.{div-one}
 use native.Mathlib.Omega.{arith}
-use lib.ListN.{length, take, drop}
-use lib.Seq.{drop-length}
+use lib.ListN.{take, drop}
 use mir.Syntax.{w32}
 use Rattle.std.specs.Int.{bytes_high_first, to_be_bytes}
 use Rattle.numbers.specs.BigEndian.{big_endian}
@@ -27,7 +26,3 @@ last_bytes (suc (suc (suc (suc (suc n))))) v h = absurd (more n h)
   where
     more : (n : ℕ) → suc (suc (suc (suc (suc n)))) ≤ 4 → ⊥
     more n h = omega arith
-
--- a text in the place of a whole slice
-pub filled : (before : List ℕ) (n : ℕ) (text : List ℕ) → length before ≡ n → text ++ drop n before ≡ text
-filled before n text e = rw (← e, drop-length) (append-nil text)

@@ -12,7 +12,7 @@ pub fn put<const N: usize>(bytes: &mut [u8], value: u32)
     requires width { N ≤ 4 }
     ensures { bytes.new ≡ big_endian N value }
 {
-    bytes[..N].copy_from_slice(&value.to_be_bytes()[4 - N..]);
+    bytes.copy_from_slice(&value.to_be_bytes()[4 - N..]);
 }
 
 // The four bytes of an i32.

@@ -3,3 +3,4 @@ pub mod Memory
 pub mod Laws
 pub mod RowsSame
 pub mod SetRows
+pub mod Nearest

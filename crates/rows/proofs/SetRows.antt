@@ -15,13 +15,13 @@ use Rattle.walls.specs.declared.Storey.{Storey}
 use Rattle.walls.specs.Storey.{StoreyRange}
 use Rattle.format.specs.declared.Command.TheVariants.{Storey as storey}
 use Rattle.format.specs.Commands.{in_range, command_of}
-use Rattle.blocks.specs.Sets.{storey_at, storeys_at, all_in_range}
+use Rattle.blocks.specs.Sets.{storey_at, storeys_at, storeys_in, all_in_range}
 use Rattle.blocks.proofs.Sets.{each_in_range, storeys_length}
 use Rattle.blocks.proofs.Searching.{storey_here}
 use Rattle.context.specs.Context.{given}
 use Rattle.context.proofs.Shown.{differ}
 use Rattle.rows.specs.Rows.{words}
-use Rattle.rows.specs.Writing.{running_storey_row, storeys_in, set_rows, set_rows_running, stored, stored_all, SetsAsk}
+use Rattle.rows.specs.Writing.{running_storey_row, set_rows, set_rows_running, stored, stored_all, SetsAsk}
 use Rattle.context.proofs.Ranges.{storey_range}
 
 pub set_rows_count : (w : Wall) (at : ℕ) (ss : List Storey) → length (set_rows w at ss) ≡ length ss

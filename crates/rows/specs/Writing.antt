@@ -1,13 +1,17 @@
 -- The rows of a command in the shape that the code keeps: off the state and the joints after it; and writing them into a slice of
 -- words. proofs/RowsSame.antt ties them to the rows of a command's context.
-use Rattle.std.specs.Prelude.{◌≡◌, Bool, true, ◌&&◌, cond, List, [], ◌∷◌, ◌++◌, ℕ, ◌+◌, ◌*◌, ◌/◌, leb, ℤ, length, take, drop, Option}
+use Rattle.std.specs.Prelude.{◌≡◌, Bool, true, ◌&&◌, cond, List, [], ◌∷◌, ◌++◌, ℕ, ◌+◌, ◌*◌, eqb, leb, ℤ, length, take, drop, Option}
+use Rattle.std.specs.Option.{option_map}
+use Rattle.exact.specs.Fraction.{Fraction}
+use Rattle.coefficient.specs.declared.Settings.{Settings}
 use Rattle.coefficient.specs.Coefficient.{fraction}
 use Rattle.claims.specs.declared.Row.{Row}
 use Rattle.actions.specs.declared.Sign.TheVariants.{Plus, Minus}
 use Rattle.members.specs.Column.{column_row}
 use Rattle.members.specs.Beam.{beam_row}
-use Rattle.members.specs.Hingeless.{hingeless_row}
+use Rattle.members.specs.Hingeless.{joint_coefficient, hingeless_row}
 use Rattle.members.specs.Detail.{detail_row}
+use Rattle.basement.specs.Basement.{basement_shear_row, basement_moment_row}
 use Rattle.walls.specs.declared.Wall.{Wall}
 use Rattle.walls.specs.declared.WallBase.{WallBase}
 use Rattle.walls.specs.declared.Storey.{Storey}
@@ -15,9 +19,9 @@ use Rattle.walls.specs.Base.{base_row_from}
 use Rattle.walls.specs.Storey.{storey_row_from}
 use Rattle.footing.specs.Rows.{footing_row}
 use Rattle.format.specs.declared.Command.{Command}
-use Rattle.format.specs.declared.Command.TheVariants.{Column as column, Beam as beam, Hingeless as hingeless, WallBase as wall_base, Storey as storey, Footing as footing, Detail as detail}
+use Rattle.format.specs.declared.Command.TheVariants.{Column as column, Beam as beam, Hingeless as hingeless, WallBase as wall_base, Storey as storey, Footing as footing, Detail as detail, Basement as basement}
 use Rattle.format.specs.Commands.{in_range}
-use Rattle.blocks.specs.Sets.{storeys_at, all_in_range}
+use Rattle.blocks.specs.Sets.{storeys_in, all_in_range}
 use Rattle.context.specs.declared.State.{State}
 use Rattle.context.specs.Context.{given, when_given}
 use Rattle.context.specs.Running.{JointTable, joint_at, running, SoundState, SoundJoints}
@@ -30,6 +34,11 @@ running_base_row w b = base_row_from (fraction w.coefficient) w.shear w.governs 
 abbrev pub running_storey_row : Wall → Storey → Row
 running_storey_row w s = storey_row_from (fraction w.coefficient) w.shear w.resistance s
 
+-- the coefficient of a basement member: of its joint, or the running one of the wall
+abbrev pub coefficient_from : State → JointTable → Settings → (id place : ℕ) → Option Fraction
+coefficient_from t joints s id place =
+    cond (eqb place 0) (option_map (joint_coefficient s) (joint_at joints id)) (option_map (λ w. fraction w.coefficient) (running t.wall))
+
 unfoldable pub rows_from : State → JointTable → Command → List Row
 rows_from t joints (column c) = when_given t.settings (λ s. column_row s.behaviour c ∷ [])
 rows_from t joints (beam b) = when_given t.settings (λ s. beam_row s.behaviour b ∷ [])
@@ -40,9 +49,12 @@ rows_from t joints (storey s) = when_given (running t.wall) (λ w. running_store
 rows_from t joints (footing f) =
     when_given t.settings (λ s. when_given t.soil (λ g. footing_row s f g.soil g.sensitive Plus ∷ footing_row s f g.soil g.sensitive Minus ∷ []))
 rows_from t joints (detail d) = detail_row d ∷ []
+rows_from t joints (basement id m) =
+    when_given t.settings (λ s. when_given (coefficient_from t joints s id m.place) (λ a. basement_shear_row a m ∷ basement_moment_row a m ∷ []))
 rows_from t joints _ = []
 
--- what these rows are made of is given: settings, the joints of a member, the running values of the wall, the soil of a footing
+-- what these rows are made of is given: settings, the joints of a member, the running values of the wall, the soil of a footing, the joint
+-- or the wall of a basement member
 unfoldable pub rows_given : State → JointTable → Command → Bool
 rows_given t joints (column c) = given t.settings
 rows_given t joints (beam b) = given t.settings
@@ -50,11 +62,8 @@ rows_given t joints (hingeless id1 id2 m) = given t.settings && given (joint_at 
 rows_given t joints (wall_base b) = given (running t.wall)
 rows_given t joints (storey s) = given (running t.wall)
 rows_given t joints (footing f) = given t.settings && given t.soil
+rows_given t joints (basement id m) = given t.settings && cond (eqb m.place 0) (given (joint_at joints id)) (given (running t.wall))
 rows_given t joints _ = true
-
--- the storeys of sets that stand one after the other, of their bytes alone
-abbrev pub storeys_in : List ℕ → List Storey
-storeys_in sets = storeys_at (length sets / 24) sets 0
 
 -- the rows of a block's sets, the first at an offset, off the running values of the wall: each row has its set's offset and 7
 unfoldable pub set_rows : Wall → ℕ → List Storey → List (List ℤ)

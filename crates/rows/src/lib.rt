@@ -1,16 +1,21 @@
-// The rows of a command, from its context as the code keeps it, written where there is room. 01, "Rows and verdict bits".
+// The rows of a command, from its context as the code keeps it, written where there is room. 01, "Rows and verdict bits"; 02, No. 9.
 #![tactic(auto)]
 
 ghost use Rattle.std.specs.Prelude.{◌∷◌, [], ◌≡◌, true, map, ◌+◌, ◌/◌, ◌^◌, ◌≤◌, ◌<◌, length, IfSome};
+ghost use Rattle.std.specs.Option.{option_map};
+ghost use Rattle.coefficient.specs.Coefficient.{fraction, Capped};
 ghost use Rattle.format.specs.Commands.{byte_of};
+ghost use Rattle.blocks.specs.Sets.{storeys_in};
 ghost use Rattle.walls.specs.Running.{WallRange};
 ghost use Rattle.context.specs.Context.{given, when_given};
+ghost use Rattle.context.specs.Running.{SettingsRange, SoundState, SoundJoints};
 ghost use Rattle.rows.specs.Rows.{row_count, words};
-ghost use Rattle.rows.specs.Writing.{rows_from, rows_given, storeys_in, set_rows, set_rows_running, stored, stored_all, EmitAsks, SetsAsk};
+ghost use Rattle.rows.specs.Writing.{coefficient_from, rows_from, rows_given, set_rows, set_rows_running, stored, stored_all, EmitAsks, SetsAsk};
 
 use actions::Sign;
 use blocks::SET;
 use claims::Row;
+use coefficient::{Quotient, Settings};
 use context::Held;
 use footing::FootingOnSoil;
 use format::{Command, Operands};
@@ -24,7 +29,7 @@ fn row_count(command: Command) -> usize
 {
     match command {
         Command::Finish | Command::Settings(_) | Command::Joint(_, _) | Command::Soil(_) => 0,
-        Command::Footing(_) => 2,
+        Command::Footing(_) | Command::Basement(_, _) => 2,
         _ => 1,
     }
 }
@@ -86,7 +91,24 @@ fn row_of(held: Held, command: Command) -> Option<Row>
         Command::Storey(s) => Some(walls::storey_row(state.wall.running()?, s)),
         Command::Detail(d) => Some(members::detail_row(d)),
         Command::Finish | Command::Settings(_) | Command::Joint(_, _) | Command::Soil(_) => None,
-        Command::Footing(_) => unreachable!(),
+        Command::Footing(_) | Command::Basement(_, _) => unreachable!(),
+    }
+}
+
+// a of the nearest possible hinge of a basement member, by its place: that of the joint, or the running one of the latest wall.
+fn nearest_coefficient(held: Held, settings: Settings, id: u8, place: u32) -> Option<Quotient>
+    requires state { SoundState held.state.now }
+    requires joints { SoundJoints held.joints.now }
+    requires settings { SettingsRange settings }
+    ensures value { option_map fraction result ≡ coefficient_from held.entry.state.now held.entry.joints.now settings id place }
+    ensures range { IfSome result Capped }
+{
+    if place == 0 {
+        let joint = held.joints[usize::from(id)]?;
+        Some(members::joint_coefficient(settings, joint))
+    } else {
+        let wall = held.state.wall.running()?;
+        Some(wall.coefficient)
     }
 }
 
@@ -105,6 +127,13 @@ fn write_rows(rows: &mut [i64], n: usize, offset: usize, held: Held, command: Co
             let founded = FootingOnSoil::new(settings, f, ground.soil, ground.sensitive);
             put_row(rows, n, offset, byte, founded.row(Sign::Plus));
             put_row(rows, n + 1, offset, byte, founded.row(Sign::Minus));
+        }
+    } else if let Command::Basement(id, m) = command {
+        if let Some(settings) = held.state.settings {
+            if let Some(a) = nearest_coefficient(held, settings, id, m.place) {
+                put_row(rows, n, offset, byte, m.shear_row(a));
+                put_row(rows, n + 1, offset, byte, m.moment_row(a));
+            }
         }
     } else if let Some(row) = row_of(held, command) {
         put_row(rows, n, offset, byte, row);
@@ -130,7 +159,9 @@ pub fn emit(rows: &mut [i64], n: usize, offset: usize, held: Held, command: Comm
 
 // ---- the rows of a block
 
-// One row for each of the sets, the first at an offset, from row n on.
+// One row for each of the sets, the first at an offset, from row n on. A call of its own: in line with the walk its loop and the walk take
+// registers from each other, 1 to 3 % more instructions a command (docs/DECISIONS.md).
+#[inline(never)]
 #[tactic(auto, unfolding(layout::specs::Layouts::operands_width, layout::specs::Layouts::width_of_all, layout::specs::Layouts::forms_of, layout::specs::Layouts::forms_in, layout::specs::Forms::width))]
 fn write_sets(rows: &mut [i64], n: usize, sets: &[u8], at: usize, wall: Wall)
     requires wall { WallRange wall }

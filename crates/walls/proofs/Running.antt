@@ -7,7 +7,7 @@ use Rattle.exact.specs.Fraction.{Fraction, Proper, whole, up_f, ◌*F◌, ◌≈
 use Rattle.exact.proofs.Rounding.{up_same}
 use Rattle.coefficient.specs.declared.Limited.{Limited}
 use Rattle.coefficient.specs.Coefficient.{fraction, CoefficientRange}
-use Rattle.coefficient.proofs.Bounds.{proper, num_le, product_le}
+use Rattle.coefficient.proofs.Bounds.{product_le, coefficient_capped}
 use Rattle.walls.specs.declared.Wall.{Wall}
 use Rattle.walls.specs.declared.WallBase.{WallBase}
 use Rattle.walls.specs.declared.Storey.{Storey}
@@ -28,8 +28,7 @@ pub wall_of_range : (q : ℕ) (b : WallBase) → WallBaseRange q b → WallRange
 unfolding wall_of
 wall_of_range q b r =
     record {
-      numerator = num_le 130 b.resistance b.moment q (coefficient_range q b r);
-      denominator = proper 130 b.resistance b.moment q;
+      coefficient = coefficient_capped _ refl (coefficient_range q b r);
       shear = base_shear_le q b r;
       resistance = r.resistance;
     }

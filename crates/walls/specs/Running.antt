@@ -1,8 +1,8 @@
 -- The running values of the latest wall, kept from its base command on: a, W and MR of 01, "Members", wall base and storey; 02,
 -- No. 4. With them stands whether q governs a, which the base's own row tells and no storey asks; 02, No. 5.
-use Rattle.std.specs.Prelude.{◌≡◌, ℕ, ◌≤◌, ◌<◌}
+use Rattle.std.specs.Prelude.{◌≡◌, ℕ, ◌≤◌}
 use Rattle.exact.specs.Fraction.{◌≈F◌}
-use Rattle.coefficient.specs.Coefficient.{fraction}
+use Rattle.coefficient.specs.Coefficient.{fraction, Capped}
 use Rattle.walls.specs.declared.Wall.{Wall}
 use Rattle.walls.specs.declared.WallBase.{WallBase}
 use Rattle.walls.specs.Base.{wall_coefficient, wall_governed, base_shear}
@@ -17,10 +17,9 @@ wall_of q b =
       governs = wall_governed q b;
     }
 
--- what the rows ask of them, met by those of every base in range
+-- what the rows ask of them, those of a basement member too; met by those of every base in range
 pub record WallRange (w : Wall) : Type 0 where
-  pub numerator : w.coefficient.num ≤ 20000000000
-  pub denominator : 0 < w.coefficient.den
+  pub coefficient : Capped w.coefficient
   pub shear : w.shear ≤ 400000000
   pub resistance : w.resistance ≤ 100000000
 

@@ -13,7 +13,7 @@ use borrow.Author.Tests.{le-leb, lt-leb, leb-true}
 use Rattle.layout.specs.Forms.{width}
 use Rattle.layout.specs.Layouts.{forms_of, forms_in, width_of_all, operands_width}
 use Rattle.format.specs.declared.Command.{Command}
-use Rattle.format.specs.declared.Command.TheVariants.{Finish as finish, Settings as settings, Joint as joint, Column as column, Beam as beam, Hingeless as hingeless, WallBase as wall_base, Storey as storey, Soil as soil, Footing as footing, Detail as detail}
+use Rattle.format.specs.declared.Command.TheVariants.{Finish as finish, Settings as settings, Joint as joint, Column as column, Beam as beam, Hingeless as hingeless, WallBase as wall_base, Storey as storey, Soil as soil, Footing as footing, Detail as detail, Basement as basement}
 use Rattle.format.specs.Commands.{byte_of, related, all_in_range as all_in, in_range}
 use Rattle.format.proofs.RangeTest.{and_first}
 use Rattle.blocks.specs.Sets.{count_in_range, all_in_range}
@@ -38,6 +38,7 @@ bytes_width (storey s) = refl
 bytes_width (soil s) = refl
 bytes_width (footing f) = refl
 bytes_width (detail d) = refl
+bytes_width (basement id m) = refl
 
 -- and no more than a footing's 58
 most : (c : Command) → leb (length (bytes_of c)) 58 ≡ true
@@ -53,6 +54,7 @@ most (storey s) = refl
 most (soil s) = refl
 most (footing f) = refl
 most (detail d) = refl
+most (basement id m) = refl
 
 pub bytes_most : (c : Command) → length (bytes_of c) ≤ 58
 bytes_most c = leb-true (length (bytes_of c)) 58 (most c)

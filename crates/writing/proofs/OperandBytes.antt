@@ -10,7 +10,7 @@ use lib.ListN.{length, take, drop, length-drop}
 use lib.Seq.{take_at, drop_at, take-add}
 use Rattle.quantity.specs.Range.{Range, within}
 use Rattle.layout.specs.declared.Form.{Form}
-use Rattle.layout.specs.declared.Form.TheVariants.{Id, Behaviour, Overstrength, MemberLength, Moment, Force, SignedMoment, SignedForce, WallLength, Inertia, SoilKind, SoilValue, YesNo, Side, FootingFlags, Place, Depth, Ductility}
+use Rattle.layout.specs.declared.Form.TheVariants.{Id, Behaviour, Overstrength, MemberLength, Moment, Force, SignedMoment, SignedForce, WallLength, Inertia, SoilKind, SoilValue, YesNo, Side, FootingFlags, Place, Depth, Ductility, HingePlace}
 use Rattle.layout.specs.Forms.{width, form_in_range}
 use Rattle.layout.specs.Layouts.{width_of_all}
 use Rattle.layout.specs.Operands.{read_operands}
@@ -55,20 +55,7 @@ Narrow Id v = v < 256
 Narrow SignedMoment v = v < 4294967296
 Narrow SignedForce v = v < 4294967296
 Narrow SoilValue v = v < 4294967296
-Narrow Behaviour v = Unit {0}
-Narrow Overstrength v = Unit {0}
-Narrow MemberLength v = Unit {0}
-Narrow Moment v = Unit {0}
-Narrow Force v = Unit {0}
-Narrow WallLength v = Unit {0}
-Narrow Inertia v = Unit {0}
-Narrow SoilKind v = Unit {0}
-Narrow YesNo v = Unit {0}
-Narrow Side v = Unit {0}
-Narrow FootingFlags v = Unit {0}
-Narrow Place v = Unit {0}
-Narrow Depth v = Unit {0}
-Narrow Ductility v = Unit {0}
+Narrow _ v = Unit {0}
 
 below : {v n : ℕ} (range : Range) → within range v ≡ true → range.greatest < n → v < n
 below {v} {n} range h l = omega (arith, most range v h)
@@ -93,6 +80,7 @@ fits_one FootingFlags v t h = below _ h (lit< tt)
 fits_one Place v t h = below _ h (lit< tt)
 fits_one Depth v t h = below _ h (lit< tt)
 fits_one Ductility v t h = below _ h (lit< tt)
+fits_one HingePlace v t h = below _ h (lit< tt)
 
 -- a value for each form, each as its type has it
 abbrev pub NarrowAll : List Form → List ℕ → Type 0

@@ -1,5 +1,5 @@
 // The calls `write` and `write_block`: one command's values, or a block of storeys, written as bytes into a lent slice. Neither has a
-// `requires`. 02, No. 2 and No. 7.
+// `requires`. 02, No. 2, No. 7 and No. 9.
 // The check opens at each goal what says how wide a command's operands are.
 #![tactic(auto, unfolding(layout::specs::Layouts::operands_width, layout::specs::Layouts::width_of_all, layout::specs::Layouts::forms_of, layout::specs::Layouts::forms_in, layout::specs::Forms::width))]
 
@@ -18,6 +18,7 @@ ghost use Rattle.writing.specs.Bytes.{operand_bytes, set_bytes};
 ghost use Rattle.writing.specs.Answers.{answer_of, write_of, bytes_after, WritesCommand};
 ghost use Rattle.writing.specs.BlockGiven.{storey_of_words, block_of, write_block_of, block_bytes_after};
 
+use basement::Basement;
 use coefficient::Settings;
 use footing::Footing;
 use format::{Command, Operands, SoilGiven};
@@ -225,6 +226,22 @@ impl Puts for Detail {
     ghost same_byte = { λ x. refl };
 }
 
+impl Puts for (u8, Basement) {
+    fn put(self, bytes: &mut [u8]) {
+        let (id, member) = self;
+        numbers::put::<1>(&mut bytes[0..1], member.place);
+        numbers::put::<1>(&mut bytes[1..2], u32::from(id));
+        numbers::put_signed(&mut bytes[2..6], member.nonseismic_shear);
+        numbers::put::<4>(&mut bytes[6..10], member.seismic_shear);
+        numbers::put_signed(&mut bytes[10..14], member.nonseismic_moment);
+        numbers::put::<4>(&mut bytes[14..18], member.seismic_moment);
+        numbers::put::<4>(&mut bytes[18..22], member.shear_strength);
+        numbers::put::<4>(&mut bytes[22..26], member.moment_strength);
+    }
+
+    ghost same_byte = { λ x. refl };
+}
+
 // ---- a command
 
 // One command's values: 5, then 11, then its byte and its operands.
@@ -262,6 +279,7 @@ pub fn write(command: Command, bytes: &mut [u8]) -> Result<usize, WriteError>
         Command::Soil(s) => write_values(s, bytes),
         Command::Footing(f) => write_values(f, bytes),
         Command::Detail(d) => write_values(d, bytes),
+        Command::Basement(id, m) => write_values((id, m), bytes),
     }
 }
 

@@ -1,8 +1,9 @@
 -- `blocks::operand_named` meets its contract. The loop's invariant: the sets so far are in range (Searching.antt). Assumes nothing.
-use mathlib.Core.Path.{ap}
+use mathlib.Core.Path.{refl, ap}
 use Prim.Native.Nat.{ℕ, ◌+◌, ◌*◌, ◌/◌}
 use native.Mathlib.Omega.{arith}
 use lib.ListN.{length}
+use Rattle.layout.specs.Layouts.{known, known_in}
 use Rattle.blocks.proofs.Searching.{search_begins, searches_on, search_found, search_ends, below, width_here, range_here, fault_here, named_fits}
 use Rattle.blocks.proofs.operand_named.Goals as goal
 
@@ -12,8 +13,12 @@ loop-set-init c = search_begins c.args.sets.now (length c.args.sets.now / 24)
 pub read-requires : goal.read-requires
 read-requires c = width_here c.args.sets.now c.as_chunks.result.0.now c.loop-set.set c.as_chunks.ensures.front c.as_chunks.ensures.front_len c.loop-set-test.true
 
-pub new-storey-requires : goal.new-storey-requires
-new-storey-requires c = width_here c.args.sets.now c.as_chunks.result.0.now c.loop-set.set c.as_chunks.ensures.front c.as_chunks.ensures.front_len c.loop-set-test.true
+pub new-storey-requires-clause-width : goal.new-storey-requires-clause-width
+new-storey-requires-clause-width c = width_here c.args.sets.now c.as_chunks.result.0.now c.loop-set.set c.as_chunks.ensures.front c.as_chunks.ensures.front_len c.loop-set-test.true
+
+pub new-storey-requires-clause-single : goal.new-storey-requires-clause-single
+unfolding known known_in
+new-storey-requires-clause-single c = refl
 
 pub overflow_add-result-then-not-in_range : goal.overflow_add-result-then-not-in_range
 overflow_add-result-then-not-in_range c =

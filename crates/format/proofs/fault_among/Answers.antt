@@ -16,7 +16,7 @@ pub split_at-requires : goal.split_at-requires
 split_at-requires c =
     let a = c.args in
     let l = c.loop-place in
-    step_fits a.kind a.operands.now c.forms-form-items.result.now c.forms-form-items.ensures l.place l.rest.now l.invariant c.loop-place-test.true c.width.result c.width.ensures c.requires
+    step_fits a.kind a.operands.now c.forms-form-items.result.now c.forms-form-items.ensures l.place l.rest.now l.invariant c.loop-place-test.true c.width.result c.width.ensures c.requires.width
 
 pub unsigned_of_any-requires : goal.unsigned_of_any-requires
 unsigned_of_any-requires c =
@@ -35,7 +35,7 @@ returns-then-not-in_range c =
     let a = c.args in
     let l = c.loop-place in
     step_found a.kind a.operands.now c.forms-form-items.result.now c.forms-form-items.ensures l.place l.rest.now l.invariant c.loop-place-test.true c.width.result c.width.ensures
-    c.unsigned_of_any.result (rw c.split_at.ensures.front at c.unsigned_of_any.ensures) (λ i. (c.type_inv.operands i).fits) c.in_range.ensures c.if-not-in_range.true
+    c.unsigned_of_any.result (rw c.split_at.ensures.front at c.unsigned_of_any.ensures) c.requires.single (λ i. (c.type_inv.operands i).fits) c.in_range.ensures c.if-not-in_range.true
 
 pub loop-place-preserved : goal.loop-place-preserved
 loop-place-preserved c =
@@ -52,4 +52,4 @@ returns c =
     c.unwrap_or.ensures
     ∙ ap (λ (o : Option ℕ). unwrap_or o 0) c.relation_operand.ensures
     ∙ named (byte_of_kind a.kind)
-    ∙ sym (scanned a.kind a.operands.now c.forms-form-items.result.now c.forms-form-items.ensures l.place l.rest.now l.invariant (λ i. (c.type_inv.operands i).fits) c.loop-place-test.false)
+    ∙ sym (scanned a.kind a.operands.now c.forms-form-items.result.now c.forms-form-items.ensures l.place l.rest.now l.invariant c.requires.single (λ i. (c.type_inv.operands i).fits) c.loop-place-test.false)

@@ -7,11 +7,10 @@ use Rattle.members.proofs.Steps.{end_at_most}
 use Rattle.members.proofs.end_moment.Goals as goal
 
 pub product_up-requires : goal.product_up-requires
-product_up-requires c = coefficient_fits (rw c.min.ensures at c.coefficient-a.ensures.value) c.requires.range c.requires.moment
+product_up-requires c = coefficient_fits c.joint_coefficient.ensures c.requires.range c.requires.moment
 
 pub returns-clause-bound : goal.returns-clause-bound
 returns-clause-bound c =
-    let e = rw c.min.ensures at c.coefficient-a.ensures.value in
     let m : c.product_up.result ≡ end_moment c.args.settings c.args.j c.args.moment =
-    c.product_up.ensures ∙ ap (λ (a : Fraction). up_f (a *F whole c.args.moment)) e in
+    c.product_up.ensures ∙ ap (λ (a : Fraction). up_f (a *F whole c.args.moment)) c.joint_coefficient.ensures in
     rw m (end_at_most _ _ _ _ _ c.requires.range.behaviour c.requires.moment)

@@ -11,7 +11,7 @@ packed-requires-clause-word2 c =
     let w = c.requires.wall in
     let t = c.requires.storey in
     let root : c.from-root.result ≤ 1000 = omega (arith, c.from-root.ensures, c.requires.root, least_root_within c.args.storey.inertia c.args.storey.base_inertia) in
-    omega (arith, c.larger_demand-v.ensures, shear_fits c.args.wall.coefficient c.from-root.result c.args.storey.shear c.args.wall.shear w.numerator w.denominator t.shear root w.shear)
+    omega (arith, c.larger_demand-v.ensures, shear_fits c.args.wall.coefficient c.from-root.result c.args.storey.shear c.args.wall.shear w.coefficient.num w.coefficient.positive t.shear root w.shear)
 
 pub returns : goal.returns
 unfolding storey_row_from
