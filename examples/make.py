@@ -22,6 +22,7 @@ COMMANDS = {
     "detail":    (0x0A, "place:B xu:H xy:H mu:H lap:B"),
     "block":     (0x0B, "count:B"),  # then so many sets, each the operands of a storey
     "basement":  (0x0C, "place:B id:B VV:i VE:I MV:i ME:I VR:I MR:I"),
+    "building":  (0x0D, ""),  # then its settings
 }
 END = b"\x00"
 
@@ -41,6 +42,18 @@ def block(element, *storeys):
     """Storeys in a block: its byte and the count, then a set for each storey, which is its command without the byte."""
     sets = [(name, data[1:]) for name, data in storeys]
     return [command("block", element, count=len(sets)), *sets]
+
+
+def building(name, q, gj, gf, *commands):
+    """A building of a file: its settings and its commands; each element is named with the building."""
+    settings = command("settings", "settings", q=q, gj=gj, gf=gf)
+    return [(f"{name}: {element}", data) for element, data in (settings, *commands)]
+
+
+def campus(*buildings):
+    """The commands of buildings, one after the other, with what begins another one between them."""
+    first, *others = buildings
+    return [*first, *(part for other in others for part in (command("building", "another building"), *other))]
 
 
 def write(folder, name, commands):
@@ -69,6 +82,7 @@ B1 = dict(length=5600, R1plus=245000, R2plus=150000, R1minus=140000, R2minus=260
 # One element written rightly and with a mistake; the commands say which operand is wrong.
 C1 = dict(length=3000, R1plus=200000, R2plus=200000, R1minus=180000, R2minus=210000, VE=80000, VR=180000)
 C2 = dict(length=3000, R1plus=50000, R2plus=50000, R1minus=50000, R2minus=50000, VE=80000, VR=60000)
+C3 = dict(length=2500, R1plus=180000, R2plus=165000, R1minus=170000, R2minus=185000, VE=62000, VR=215000)
 F1 = dict(B=2200, L=2200, MR=260000, ME=130000, NV=800000, NE=0, XV=20000, XE=60000,
           YV=0, YE=0, HV=15000, HE=55000, U=0, P=100000, flags=CONTACT)
 F2 = dict(B=1800, L=1800, MR=260000, ME=130000, NV=800000, XV=50000, XE=110000,
@@ -79,6 +93,7 @@ F4 = dict(B=2000, L=2600, MR=260000, ME=130000, NV=650000, NE=90000, XV=-40000, 
           YV=0, YE=25000, HV=15000, HE=90000, U=50000, P=60000)
 N1 = dict(length=3000, ME1=60000, ME2=60000, V0=-20000, VR=130000)
 N2 = dict(length=3200, ME1=110000, ME2=110000, V0=35000, VR=250000)
+N3 = dict(length=3200, ME1=110000, ME2=125000, V0=35000, VR=250000)
 K1 = dict(id=1, VV=-12000, VE=46000, MV=18000, ME=71000, VR=170000, MR=260000)
 
 # The base of the wall of wall.job, and the wall's parts in two basement storeys of 3.0 m. From the base down the seismic moment falls from
@@ -218,6 +233,38 @@ JOBS = {
         command("basement", "wall W1, first basement", **P1),
         command("basement", "wall W1, second basement", **P2),
     ],
+    # Three buildings of a campus, each with settings of its own and with joints from 1 on. The column C1 and the member N1 have the same
+    # operands in the hall as in another building, the footing F1 in the hall and in the workshop.
+    "campus": campus(
+        building(
+            "hall", 350, 140, 120,
+            command("joint", "joint 1", id=1, RB=210000, RC=380000, EB=120000),
+            command("joint", "joint 2", id=2, RB=560000, RC=460000, EB=250000),
+            command("column", "column C1", **C3),
+            command("no_hinges", "member N1", joint1=1, joint2=2, **N3),
+            command("soil", "granular soil, tangent 0.7", kind=GRANULAR, value=0.7, sensitive=0),
+            command("footing", "footing F1", **F1),
+        ),
+        building(
+            "library", 300, 130, 120,
+            command("joint", "joint 1", id=1, RB=280000, RC=380000, EB=120000),
+            command("joint", "joint 2", id=2, RB=300000, RC=420000, EB=260000),
+            command("no_hinges", "member N1", joint1=1, joint2=2, **N3),
+            command("basement", "column K1, basement", place=JOINT, **K1),
+            command("wall_base", "wall W1, base", **W1),
+            *block("wall W1, block of storeys 1 and 2",
+                   command("storey", "wall W1, storey 1", ME=3100000, VE=1020000, J=133333333, J0=133333333, VR=3000000, MS=8500000),
+                   command("storey", "wall W1, storey 2", ME=2100000, VE=880000, J=106666667, J0=133333333, VR=2500000, MS=6500000)),
+        ),
+        building(
+            "workshop", 150, 120, 100,
+            command("joint", "joint 1", id=1, RB=90000, RC=150000, EB=80000),
+            command("column", "column C1", **C3),
+            command("no_hinges", "column N2", joint1=1, joint2=1, length=2500, ME1=60000, ME2=45000, V0=0, VR=55000),
+            command("soil", "cohesive soil, 80 kPa", kind=COHESIVE, value=80.0, sensitive=0),
+            command("footing", "footing F1", **F1),
+        ),
+    ),
     # Footings on a granular soil, on a cohesive sensitive one, and a light one.
     "footings": [
         SETTINGS,
@@ -323,7 +370,7 @@ JOBS = {
     ],
 }
 
-# Mistakes that are refused with 5: one job each.
+# Mistakes that are refused, the last with 4, the others with 5: one job each.
 REFUSED = {
     # The id of the joint has two bytes, so each later operand is read a byte too early.
     "id-two-bytes": [SETTINGS, ("joint J1", b"\x02\x00" + command("joint", "", id=1, RB=210000, RC=380000, EB=120000)[1][1:])],
@@ -354,6 +401,14 @@ REFUSED = {
     ],
     # The friction angle in degrees for its tangent.
     "degrees": [SETTINGS, command("soil", "granular soil, 35 degrees", kind=GRANULAR, value=35.0, sensitive=0)],
+    # A second building that is to have the settings of the first, so that its own were left out.
+    "building-without-settings": [
+        SETTINGS,
+        command("joint", "joint J1, first building", id=1, RB=210000, RC=380000, EB=120000),
+        command("building", "another building"),
+        command("joint", "joint J1, second building", id=1, RB=280000, RC=380000, EB=120000),
+        command("no_hinges", "member N1, second building", joint1=1, joint2=1, **N1),
+    ],
 }
 
 if __name__ == "__main__":

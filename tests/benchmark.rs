@@ -67,7 +67,7 @@ const PRINTS: [(&str, fn() -> Vec<i64>); 3] = [
 const WRITTEN: usize = 1000;
 
 /// The commands by their bytes, each with the race of its two writers.
-const WRITES: [(&str, u8, fn(usize, u8) -> [f64; 2]); 12] = [
+const WRITES: [(&str, u8, fn(usize, u8) -> [f64; 2]); 13] = [
     ("settings", 1, write::<commands::Settings>),
     ("joint", 2, write::<commands::Joint>),
     ("column", 3, write::<commands::Column>),
@@ -79,6 +79,7 @@ const WRITES: [(&str, u8, fn(usize, u8) -> [f64; 2]); 12] = [
     ("footing", 9, write::<commands::Footing>),
     ("detail", 10, write::<commands::Detail>),
     ("basement", 12, write::<commands::Basement>),
+    ("building", 13, write::<commands::Building>),
     ("end", 0, write::<commands::End>),
 ];
 

@@ -11,7 +11,7 @@ mod reference;
 use reference::{Command, Printed, Written};
 
 /// Cases of later requests have a higher level.
-const LEVEL: u32 = 9;
+const LEVEL: u32 = 10;
 
 const BLOCK: u8 = 11;
 

@@ -2,9 +2,11 @@
 //! counts the numbers of each run in the words that it wrote; writes each command of each accepted job again, and prints the page of its
 //! rows. Arguments: jobs, seed. Prints `N jobs agree`, or the first disagreement with its job in hexadecimal. A run of 100,000 jobs or
 //! more fails too when an operand was never at fault, when fewer than a tenth of the jobs are accepted ones with a joint revised between
-//! members, when no page had a form feed, or when one of the cases that `wanted` lists was met fewer than ten times.
+//! members, or accepted ones of several buildings, when no page had a form feed, or when one of the cases that `wanted` lists was met fewer
+//! than ten times.
 //! Assumes nothing. Built by tests/run.
 
+mod campus;
 mod footings;
 mod generate;
 mod hinges;
@@ -15,7 +17,7 @@ mod rounds;
 mod shears;
 mod storeys;
 
-use generate::{Mix, Random, BLOCK, MOST_COMMANDS};
+use generate::{Mix, Random, BLOCK, MOST_COMMANDS, SETTINGS};
 use library::RunAnswer;
 use reference::{Fault, ROW};
 use rounds::{hexadecimal, Met, MANY};
@@ -23,8 +25,8 @@ use rounds::{hexadecimal, Met, MANY};
 /// Words before and after the rows that a call is lent.
 const GUARD: usize = 16;
 
-/// The number of operands of each command, from 00 to 0C; a block has its count and, counted once for all of its sets, six.
-const OPERANDS: [usize; 13] = [0, 3, 4, 7, 8, 7, 6, 6, 3, 15, 5, 7, 8];
+/// The number of operands of each command, from 00 to 0D; a block has its count and, counted once for all of its sets, six.
+const OPERANDS: [usize; 14] = [0, 3, 4, 7, 8, 7, 6, 6, 3, 15, 5, 7, 8, 0];
 
 /// Command and place of the ids that are never at fault. That of a basement member is where it is not 0 for a wall.
 const IDS: [(usize, usize); 3] = [(2, 0), (5, 1), (5, 2)];
@@ -51,6 +53,10 @@ fn main() {
         println!("a joint revised in {} of {jobs} jobs", tally.revised);
         std::process::exit(1);
     }
+    if jobs >= MANY && tally.several * 10 < jobs {
+        println!("several buildings in {} of {jobs} jobs", tally.several);
+        std::process::exit(1);
+    }
     if jobs >= MANY && tally.feeds == 0 {
         println!("no page had a form feed");
         std::process::exit(1);
@@ -63,19 +69,20 @@ fn main() {
 struct Tally {
     accepted: u64,
     rows: u64,
-    /// Accepted jobs with a joint revised between members, each counted once.
+    /// Accepted jobs with a joint revised between members, and of several buildings, each counted once.
     revised: u64,
+    several: u64,
     /// Commands of accepted jobs that were written again.
     written: u64,
     /// Pages of accepted jobs, and those with a form feed.
     printed: u64,
     feeds: u64,
-    /// Cases of the commands of accepted jobs, of runs, of flags refused, and of blocks and basement members refused.
+    /// Cases of the commands of accepted jobs, of runs, of flags refused, and of blocks, basement members and buildings refused.
     met: Met,
-    /// By number, from 1 to 9.
-    refused: [u64; 10],
+    /// By number, from 1 to 9, and 13.
+    refused: [u64; 14],
     /// Jobs by the command and the operand at fault.
-    at_fault: [[u64; 15]; 13],
+    at_fault: [[u64; 15]; 14],
 }
 
 impl Tally {
@@ -90,6 +97,7 @@ impl Tally {
         }
         self.met.add(storeys::refused(job, fault));
         self.met.add(hinges::faults::refused(job, fault));
+        self.met.add(campus::refused(job, fault));
     }
 
     fn ran(&mut self, answer: &RunAnswer) {
@@ -103,6 +111,7 @@ impl Tally {
     /// The jobs by operand at fault, in the order of the file, for each command with operands.
     fn operands(&self) -> String {
         let counts = (1..OPERANDS.len())
+            .filter(|&code| OPERANDS[code] > 0)
             .map(|code| format!("{code}: {:?}", &self.at_fault[code][..OPERANDS[code]]));
         format!("operand at fault {}", counts.collect::<Vec<_>>().join(" "))
     }
@@ -120,10 +129,16 @@ impl std::fmt::Display for Tally {
     fn fmt(&self, out: &mut std::fmt::Formatter) -> std::fmt::Result {
         write!(
             out,
-            "{} accepted with {} rows; a joint revised in {} jobs; {} commands written again; {} pages, {} with form feeds; refused",
-            self.accepted, self.rows, self.revised, self.written, self.printed, self.feeds
+            "{} accepted with {} rows; a joint revised in {} jobs, several buildings in {}; {} commands written again; ",
+            self.accepted, self.rows, self.revised, self.several, self.written
         )?;
-        (1..10).try_for_each(|number| write!(out, " {number}: {}", self.refused[number]))
+        write!(
+            out,
+            "{} pages, {} with form feeds; refused",
+            self.printed, self.feeds
+        )?;
+        let mut numbers = (1..10).chain([13]);
+        numbers.try_for_each(|number| write!(out, " {number}: {}", self.refused[number]))
     }
 }
 
@@ -136,17 +151,24 @@ const JOINTS: (Mix, u64) = (Mix([5, 1, 1, 8, 1, 1, 1, 1, 1, 0, 3]), 40);
 const WALLS: (Mix, u64) = (Mix([0, 1, 0, 0, 4, 4, 0, 0, 1, 5, 4]), 160);
 const MIXES: [(Mix, u64); 5] = [ALL, JOINTS, ALL, JOINTS, WALLS];
 
-/// One job of each kind in turn; every 200th is of 4,096 commands and every 200th of 4,097, and as many have a block near this limit.
+/// One job of each kind in turn, one in three of several buildings; every 200th is of 4,096 commands and every 200th of 4,097, and as many
+/// have a block or another building near this limit.
 fn draw(random: &mut Random, number: u64) -> Vec<u8> {
     match number % 200 {
         0 => return longest(random, MOST_COMMANDS),
         100 => return longest(random, MOST_COMMANDS + 1),
         50 | 150 => return generate::block_at_limit(random),
+        25 | 125 => return generate::building_at_limit(random),
         _ => (),
     }
     let (mix, most) = &MIXES[(number / 10 % 5) as usize];
     let commands = random.between(1, *most) as usize;
-    let mut job = generate::valid(random, commands, mix);
+    let mut job = if random.one_in(3) {
+        let commands = random.between(1, 3 * most) as usize;
+        generate::campus(random, commands, mix)
+    } else {
+        generate::valid(random, commands, mix)
+    };
     match number % 10 {
         0 | 1 => (),
         2 | 3 => generate::at_demand(random, &mut job),
@@ -155,8 +177,7 @@ fn draw(random: &mut Random, number: u64) -> Vec<u8> {
             generate::at_demand(random, &mut job);
             job = generate::damaged(random, &job);
         }
-        6 if random.one_in(3) => job = generate::basement_at_fault(random),
-        6 => job = generate::random_operands(random, commands),
+        6 => job = at_fault(random, commands),
         7 => job = generate::out_of_range(random, &job),
         8 => {
             job = generate::out_of_range(random, &job);
@@ -171,16 +192,26 @@ fn draw(random: &mut Random, number: u64) -> Vec<u8> {
     job
 }
 
-/// A job of so many commands, all of one kind or of a mix, or with the most rows. The generator stops at 4,096, so one more is put before
-/// the end, at times cut short.
+/// A job with a basement member or a building that mostly is at fault, or one of so many commands with random operands.
+fn at_fault(random: &mut Random, commands: usize) -> Vec<u8> {
+    match random.below(6) {
+        0 | 1 => generate::basement_at_fault(random),
+        2 | 3 => generate::building_at_fault(random),
+        _ => generate::random_operands(random, commands),
+    }
+}
+
+/// A job of so many commands, all of one kind or of a mix, at times in several buildings, or with the most rows. The generator stops at
+/// 4,096, so one more is put before the end, at times cut short.
 fn longest(random: &mut Random, commands: usize) -> Vec<u8> {
     let mut job = match random.below(8) {
         0 => generate::most_rows(random),
         1 | 2 => generate::valid(random, MOST_COMMANDS, &Mix::EVEN),
         3 => generate::valid(random, MOST_COMMANDS, &Mix::only(9)),
-        _ => {
-            let code = 3 + random.below(10) as u8;
-            generate::valid(random, MOST_COMMANDS, &Mix::only(code))
+        code => {
+            let mix = Mix::only(3 + random.below(10) as u8);
+            let draw = [generate::valid, generate::campus][usize::from(code > 5)];
+            draw(random, MOST_COMMANDS, &mix)
         }
     };
     job.pop();
@@ -213,6 +244,7 @@ fn compare(random: &mut Random, job: &[u8], tally: &mut Tally) -> Result<(), Str
     same("fault", &library::fault(job), &fault)?;
     tally.fault(job, &fault);
     tally.revised += u64::from(size.is_ok() && generate::revised_between_members(job));
+    tally.several += u64::from(size.is_ok() && campus::buildings(job).len() > 1);
     let mut rows = vec![0; ROW * size.unwrap_or(0)];
     let _ = reference::run(job, &mut rows);
     if size.is_ok() {
@@ -355,9 +387,12 @@ fn take_down(random: &mut Random) -> Result<(), String> {
 /// What the commands of an accepted job are cases of.
 fn cases(job: &[u8], words: &[i64]) -> Vec<String> {
     let rows = words.as_chunks::<ROW>().0;
-    let q = u64::from(u16::from_be_bytes([job[1], job[2]]));
-    let mut cases = storeys::accepted(job);
+    let mut cases = [storeys::accepted(job), campus::accepted(job)].concat();
+    let mut q = 0;
     for command in generate::split(job) {
+        if command[0] == SETTINGS {
+            q = u64::from(u16::from_be_bytes([command[1], command[2]]));
+        }
         cases.extend(shears::cases(q, &command));
     }
     for footing in footings::of(job) {
@@ -401,6 +436,8 @@ fn wanted() -> Vec<String> {
         storeys::wanted(),
         hinges::wanted(),
         hinges::faults::wanted(),
+        campus::wanted(),
+        campus::wanted_of_refused(),
         numbers::wanted(),
         refusals,
     ]

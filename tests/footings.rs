@@ -1,5 +1,5 @@
-//! The footings of an accepted job, with the settings and the soil that hold at them; and what a row of a footing is a case of: its flags
-//! and the passive thrust (02, No. 6), H beside R, and the exception of bit 4.
+//! The footings of an accepted job, with the settings and the soil of their building that hold at them; and what a row of a footing is a
+//! case of: its flags and the passive thrust (02, No. 6), H beside R, and the exception of bit 4.
 //! Assumes of a row that it is the footing's.
 
 #![allow(dead_code)]
@@ -7,6 +7,7 @@
 use crate::generate;
 use crate::reference::ROW;
 
+const SETTINGS: u8 = 1;
 const SOIL: u8 = 8;
 const FOOTING: u8 = 9;
 
@@ -44,13 +45,14 @@ pub struct Footing {
 
 /// The footings of an accepted job.
 pub fn of(job: &[u8]) -> Vec<Footing> {
-    let [q, gf] = [1, 5].map(|at| u64::from(u16::from_be_bytes([job[at], job[at + 1]])));
+    let [mut q, mut gf] = [0; 2];
     let [mut cohesive, mut sensitive] = [false; 2];
     let mut footings = Vec::new();
     let mut at = 0;
     for command in generate::split(job) {
         let length = command.len();
         match command[0] {
+            SETTINGS => [q, gf] = [1, 5].map(|at| half(&command, at)),
             SOIL => [cohesive, sensitive] = [command[1] == 1, command[6] == 1],
             FOOTING => footings.push(Footing {
                 at,
@@ -65,6 +67,10 @@ pub fn of(job: &[u8]) -> Vec<Footing> {
         at += length;
     }
     footings
+}
+
+fn half(command: &[u8], at: usize) -> u64 {
+    u64::from(u16::from_be_bytes([command[at], command[at + 1]]))
 }
 
 /// Whether a row has eccentricities and a resistance.

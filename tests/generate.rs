@@ -1,12 +1,14 @@
 //! Pseudo-random jobs of documents 01 and 02: valid ones, with joints given again and with the two terms of a smaller-of rule equal or
-//! nearly so, ones of walls, ones with strengths at the demand, ones with operands out of range, ones with a block or a basement member at
-//! fault or at the limit of the commands, damaged ones, noise; single commands by their values; and words of rows.
+//! nearly so, ones of walls, ones of several buildings, ones with strengths at the demand, ones with operands out of range, ones with a
+//! block, a basement member or a building at fault or at the limit of the commands, damaged ones, noise; single commands by their values;
+//! and words of rows.
 //! Assumes nothing; the same seed gives the same jobs.
 
 #![allow(dead_code, unused_imports)]
 
 mod basements;
 mod blocks;
+mod buildings;
 mod commands;
 mod faults;
 pub mod rows;
@@ -15,25 +17,29 @@ mod values;
 use crate::reference::{run, size, ROW};
 pub use basements::{basement, basement_at_fault, most_rows};
 pub use blocks::{block_at_fault, block_at_limit};
+pub use buildings::{building_at_fault, building_at_limit, campus, last_building};
 pub use commands::{block, command};
 pub use faults::put as put_faults;
 use values::Values;
 pub use values::{Random, LIMIT};
 
 /// Bytes of a command, its byte counted, by command byte; of a block those before its sets.
-const WIDTHS: [usize; 13] = [1, 7, 14, 29, 33, 23, 25, 25, 7, 58, 9, 2, 27];
+const WIDTHS: [usize; 14] = [1, 7, 14, 29, 33, 23, 25, 25, 7, 58, 9, 2, 27, 1];
 
 /// Bytes of a set.
 const SET: usize = 24;
 
+pub const SETTINGS: u8 = 1;
 const WALL_BASE: u8 = 6;
 const STOREY: u8 = 7;
 pub const BLOCK: u8 = 11;
 pub const BASEMENT: u8 = 12;
+pub const BUILDING: u8 = 13;
 
-/// Commands of a job, end not counted; and the sets of a block. A block counts as many commands as it has sets.
+/// Commands of a job, end not counted; the sets of a block; and the buildings of a job. A block counts as many commands as it has sets.
 pub const MOST_COMMANDS: usize = 4096;
 pub const MOST_SETS: usize = 64;
+pub const MOST_BUILDINGS: usize = 16;
 
 /// How often each of the commands 02 to 0C is drawn.
 #[derive(Clone, Copy)]
@@ -64,15 +70,12 @@ impl Mix {
     }
 }
 
-/// An accepted job with `commands` commands from 1 to 4,096, settings counted, end not.
+/// An accepted job of one building with `commands` commands from 1 to 4,096, settings counted, end not.
 /// A command that lacks its joint, wall base or soil is replaced by what it lacks, a basement member that lacks both by a joint. A joint
 /// has a new id, or one that was given. A block has at most as many sets as there are commands left.
 pub fn valid(random: &mut Random, commands: usize, mix: &Mix) -> Vec<u8> {
     let mut writer = Writer::begin(random, commands);
-    while writer.left > 0 {
-        let code = mix.draw(writer.values.random);
-        writer.command(code);
-    }
+    writer.fill(mix);
     writer.job.push(0);
     writer.job
 }
@@ -88,7 +91,8 @@ pub fn walls(random: &mut Random, storeys: &[usize]) -> Vec<u8> {
     writer.job
 }
 
-/// A job being written, how many commands are left to it, and what its commands have given.
+/// A job being written, how many commands are left to its building, what the building's commands have given, and the joints of the
+/// building before.
 struct Writer<'r> {
     values: Values<'r>,
     job: Vec<u8>,
@@ -96,6 +100,7 @@ struct Writer<'r> {
     joints: Vec<u8>,
     wall: bool,
     soil: bool,
+    before: Vec<u8>,
 }
 
 impl<'r> Writer<'r> {
@@ -104,16 +109,30 @@ impl<'r> Writer<'r> {
         let values = Values::begin(random);
         let mut writer = Writer {
             values,
-            job: vec![1],
+            job: Vec::new(),
             left: commands - 1,
             joints: Vec::new(),
             wall: false,
             soil: false,
+            before: Vec::new(),
         };
-        for factor in [writer.values.q, writer.values.gj, writer.values.gf] {
-            writer.half(factor);
-        }
+        writer.settings();
         writer
+    }
+
+    fn settings(&mut self) {
+        self.job.push(1);
+        for factor in [self.values.q, self.values.gj, self.values.gf] {
+            self.half(factor);
+        }
+    }
+
+    /// The commands that are left.
+    fn fill(&mut self, mix: &Mix) {
+        while self.left > 0 {
+            let code = mix.draw(self.values.random);
+            self.command(code);
+        }
     }
 
     fn command(&mut self, wanted: u8) {
@@ -167,9 +186,13 @@ impl<'r> Writer<'r> {
         self.joints[place as usize]
     }
 
-    /// An id that was not given, of which one must be left; 0 and 255 more often than others.
+    /// An id that was not given, of which one must be left; 0 and 255 more often than others, and often one of the building before.
     fn new_id(&mut self) -> u8 {
         let mut id = self.values.side(0, 255) as u8;
+        if !self.before.is_empty() && self.values.random.one_in(2) {
+            let place = self.values.random.below(self.before.len() as u64);
+            id = self.before[place as usize];
+        }
         while self.joints.contains(&id) {
             id = id.wrapping_add(1);
         }
@@ -385,12 +408,13 @@ fn put(job: &mut [u8], at: usize, value: i64, least: i64, most: u64) {
 }
 
 /// Whether some joint of an accepted job is revised between members: a member without hinges names it, then it is given again with
-/// other sums, then a member names it.
+/// other sums, then a member names it, all in one building.
 pub fn revised_between_members(job: &[u8]) -> bool {
     let mut sums = vec![Vec::new(); 256];
     let [mut named, mut revised] = [[false; 256]; 2];
     for command in split(job) {
         match command[0] {
+            BUILDING => [named, revised] = [[false; 256]; 2],
             2 => {
                 let id = usize::from(command[1]);
                 revised[id] |= named[id] && sums[id] != command[2..];
@@ -464,7 +488,7 @@ fn rearrange(random: &mut Random, job: &mut Vec<u8>) {
         0 => commands.swap(one, other),
         1 => commands.insert(other, commands[one].clone()),
         2 => drop(commands.remove(one)),
-        _ => commands[one][0] = random.below(14) as u8,
+        _ => commands[one][0] = random.below(15) as u8,
     }
     *job = commands.concat();
 }

@@ -1,16 +1,17 @@
-//! The basement members of an accepted job (02, No. 9), each with its nearest hinge: the joint or the wall base that holds at it, and its
-//! coefficient as an exact fraction. And what a member is a case of.
+//! The basement members of an accepted job (02, No. 9), each with its nearest hinge: the joint or the wall base of its building that holds at
+//! it, and its coefficient as an exact fraction. And what a member is a case of.
 //! Assumes of rows that they are the member's.
 
 #![allow(dead_code)]
 
 pub mod faults;
 
-use crate::generate::{self, BASEMENT};
+use crate::generate::{self, BASEMENT, BUILDING};
 use crate::reference::ROW;
 use std::cmp::Ordering;
 use std::collections::BTreeMap;
 
+const SETTINGS: u8 = 1;
 const JOINT: u8 = 2;
 const WALL_BASE: u8 = 6;
 
@@ -49,16 +50,16 @@ pub struct Member {
 
 /// The basement members of an accepted job.
 pub fn of(job: &[u8]) -> Vec<Member> {
-    let [q, gj] = [1, 3].map(|at| i128::from(u16::from_be_bytes([job[at], job[at + 1]])));
-    let coefficient = |hinge: &Vec<u8>| of_hinge(q, gj, hinge);
+    let mut factors = [0; 2];
     // By place and id: the joints and the wall base that hold, and the coefficient at the last member.
-    let mut given = BTreeMap::new();
-    let mut last = BTreeMap::new();
+    let (mut given, mut last) = (BTreeMap::new(), BTreeMap::new());
     let mut members = Vec::new();
     let mut at = 0;
     for bytes in generate::split(job) {
         let length = bytes.len();
         match bytes[0] {
+            BUILDING => (given, last) = Default::default(),
+            SETTINGS => factors = [1, 3].map(|at| half(&bytes, at)),
             JOINT => drop(given.insert([0, bytes[1]], bytes)),
             WALL_BASE => drop(given.insert(WALL, bytes)),
             BASEMENT => {
@@ -67,6 +68,7 @@ pub fn of(job: &[u8]) -> Vec<Member> {
                     WALL => given.range(..WALL).next().map(|(_, joint)| joint),
                     _ => given.get(&WALL),
                 };
+                let coefficient = |hinge: &Vec<u8>| of_hinge(factors, hinge);
                 let a = coefficient(&given[&named]);
                 members.push(Member {
                     at,
@@ -85,7 +87,7 @@ pub fn of(job: &[u8]) -> Vec<Member> {
 }
 
 /// g·R/(100·E), at most q/100, by the joint or the wall base that gives it.
-fn of_hinge(q: i128, gj: i128, hinge: &[u8]) -> Coefficient {
+fn of_hinge([q, gj]: [i128; 2], hinge: &[u8]) -> Coefficient {
     let [g, r, e] = if hinge[0] == JOINT {
         let [rb, rc, eb] = [2, 6, 10].map(|at| amount(hinge, at));
         [gj, rb.min(rc), eb]
@@ -104,6 +106,10 @@ fn of_hinge(q: i128, gj: i128, hinge: &[u8]) -> Coefficient {
         _ => [q, 100],
     };
     Coefficient { over, under, cap }
+}
+
+fn half(bytes: &[u8], at: usize) -> i128 {
+    i128::from(u16::from_be_bytes([bytes[at], bytes[at + 1]]))
 }
 
 fn amount(bytes: &[u8], at: usize) -> i128 {

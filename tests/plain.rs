@@ -3,8 +3,8 @@
 //! Assumes nothing. A function is never inlined, as a call of the library cannot be, so that both pay for a call.
 
 use crate::library::write::{
-    Basement, Beam, Column, Detail, End, Footing, Hingeless, Joint, Settings, Soil, Storey, Values,
-    WallBase, WriteAnswer,
+    Basement, Beam, Building, Column, Detail, End, Footing, Hingeless, Joint, Settings, Soil,
+    Storey, Values, WallBase, WriteAnswer,
 };
 use crate::reference::Printed;
 
@@ -62,6 +62,13 @@ impl Plain for End {
     #[inline(never)]
     fn write_plainly(self, bytes: &mut [u8]) -> WriteAnswer {
         put::<1>(true, bytes, |b| b[0] = 0)
+    }
+}
+
+impl Plain for Building {
+    #[inline(never)]
+    fn write_plainly(self, bytes: &mut [u8]) -> WriteAnswer {
+        put::<1>(true, bytes, |b| b[0] = 13)
     }
 }
 

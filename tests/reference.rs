@@ -1,4 +1,4 @@
-//! Document 01 with requests No. 1 to 3 and 5 to 9 of document 02 in plain Rust: size, run, take-down, writing a command and printing
+//! Document 01 with requests No. 1 to 3 and 5 to 10 of document 02 in plain Rust: size, run, take-down, writing a command and printing
 //! a page, written from the papers; and the operand at fault.
 //! Assumes nothing of the job's bytes, the rows or the number of rows.
 
@@ -37,9 +37,13 @@ const FOOTING: u8 = 0x09;
 const DETAIL: u8 = 0x0A;
 const BLOCK: u8 = 0x0B;
 const BASEMENT: u8 = 0x0C;
+const BUILDING: u8 = 0x0D;
 
-/// Commands of a job, end not counted; a block counts as so many as it has sets.
+/// Commands of a job, end not counted; a block counts as so many as it has sets. The buildings of a job have this limit together.
 const MOST_COMMANDS: usize = 4096;
+
+/// Buildings of a job.
+const MOST_BUILDINGS: usize = 16;
 
 /// Why a call gave no result: 01's number, the offset and, for 9, the rows needed; else these are 0.
 #[derive(Clone, Copy, Debug, PartialEq, Eq)]
@@ -127,7 +131,7 @@ fn at_fault(bytes: &[u8]) -> Option<usize> {
     }
     let operands = &bytes[1..][..width(code)?];
     match code {
-        END => None,
+        END | BUILDING => None,
         SETTINGS => Settings::read(fixed(operands)).at_fault(),
         JOINT => Joint::read(fixed(operands)).1.at_fault(),
         COLUMN => Column::read(fixed(operands)).at_fault(),
@@ -171,9 +175,10 @@ pub fn take_down(kind: u8, value: f32) -> Result<u32, Refusal> {
 
 // The first pass: every fault, and the number of rows.
 
-/// How many commands there are so far, and what they have given.
+/// How many commands and buildings the file has so far, and what the commands of its latest building have given.
 struct Given {
     commands: usize,
+    buildings: usize,
     settings: bool,
     joints: [bool; 256],
     wall: bool,
@@ -182,13 +187,7 @@ struct Given {
 
 /// Tries every fault of a job in the papers' order and counts its rows.
 fn check(job: &[u8]) -> Result<usize, Refusal> {
-    let mut given = Given {
-        commands: 0,
-        settings: false,
-        joints: [false; 256],
-        wall: false,
-        soil: false,
-    };
+    let mut given = Given::building(0, 1);
     let mut rows = 0;
     let mut at = 0;
     loop {
@@ -205,16 +204,8 @@ fn check(job: &[u8]) -> Result<usize, Refusal> {
         if code == END {
             break;
         }
-        if given.commands == MOST_COMMANDS {
-            return Err(Refusal::at(8, at));
-        }
-        if given.settings == (code == SETTINGS) {
-            return Err(Refusal::at(4, at));
-        }
-        rows += given
-            .admit(code, operands)
-            .map_err(|number| Refusal::at(number, at))?;
-        given.commands += 1;
+        let admitted = given.place(code).and_then(|()| given.admit(code, operands));
+        rows += admitted.map_err(|number| Refusal::at(number, at))?;
         at += 1 + width;
     }
     if !given.settings {
@@ -229,7 +220,7 @@ fn check(job: &[u8]) -> Result<usize, Refusal> {
 /// Bytes of a command's operands; none for an unknown command, and for a block, whose count tells them.
 fn width(code: u8) -> Option<usize> {
     Some(match code {
-        END => 0,
+        END | BUILDING => 0,
         SETTINGS | SOIL => 6,
         JOINT => 13,
         COLUMN => 28,
@@ -244,6 +235,27 @@ fn width(code: u8) -> Option<usize> {
 }
 
 impl Given {
+    /// What holds where a building begins, after so many commands of the file: nothing is given, so the settings come next.
+    fn building(commands: usize, buildings: usize) -> Given {
+        Given {
+            commands,
+            buildings,
+            settings: false,
+            joints: [false; 256],
+            wall: false,
+            soil: false,
+        }
+    }
+
+    /// Tries faults 8, 13 and 4 of a command other than a block and the end, and counts it.
+    fn place(&mut self, code: u8) -> Result<(), u8> {
+        ensure(self.commands < MOST_COMMANDS, 8)?;
+        ensure(code != BUILDING || self.buildings < MOST_BUILDINGS, 13)?;
+        ensure(self.settings != (code == SETTINGS), 4)?;
+        self.commands += 1;
+        Ok(())
+    }
+
     /// Tries the faults of the block that bytes begin with: 1 for a missing count, 5 for the count, 1 for the sets, 8, 4, 6, then 5 for
     /// the sets. Gives its count, which is the number of its rows.
     fn admit_block(&mut self, bytes: &[u8]) -> Result<usize, u8> {
@@ -261,16 +273,17 @@ impl Given {
     /// Tries faults 5 and 6 of a command and gives the number of its rows.
     fn admit(&mut self, code: u8, operands: &[u8]) -> Result<usize, u8> {
         match code {
-            SETTINGS => {
-                ensure(Settings::read(fixed(operands)).in_range(), 5)?;
-                self.settings = true;
+            BUILDING => {
+                *self = Given::building(self.commands, self.buildings + 1);
                 Ok(0)
+            }
+            SETTINGS => {
+                let in_range = Settings::read(fixed(operands)).in_range();
+                gives(0, in_range, &mut self.settings)
             }
             JOINT => {
                 let (id, joint) = Joint::read(fixed(operands));
-                ensure(joint.in_range(), 5)?;
-                self.joints[id] = true;
-                Ok(0)
+                gives(0, joint.in_range(), &mut self.joints[id])
             }
             COLUMN => rows_of(1, Column::read(fixed(operands)).in_range(), true),
             BEAM => rows_of(1, Beam::read(fixed(operands)).in_range(), true),
@@ -280,15 +293,13 @@ impl Given {
                 rows_of(1, member.in_range(), self.joints[one] && self.joints[other])
             }
             WALL_BASE => {
-                ensure(WallBase::read(fixed(operands)).in_range(), 5)?;
-                self.wall = true;
-                Ok(1)
+                let in_range = WallBase::read(fixed(operands)).in_range();
+                gives(1, in_range, &mut self.wall)
             }
             STOREY => rows_of(1, Storey::read(fixed(operands)).in_range(), self.wall),
             SOIL => {
-                ensure(SoilGiven::read(fixed(operands)).in_range(), 5)?;
-                self.soil = true;
-                Ok(0)
+                let in_range = SoilGiven::read(fixed(operands)).in_range();
+                gives(0, in_range, &mut self.soil)
             }
             FOOTING => rows_of(2, Footing::read(fixed(operands)).in_range(), self.soil),
             BASEMENT => {
@@ -308,6 +319,13 @@ fn rows_of(rows: usize, in_range: bool, given: bool) -> Result<usize, u8> {
     Ok(rows)
 }
 
+/// So many rows, with what the command gives marked as given; or 5 for a command out of range.
+fn gives(rows: usize, in_range: bool, given: &mut bool) -> Result<usize, u8> {
+    ensure(in_range, 5)?;
+    *given = true;
+    Ok(rows)
+}
+
 fn ensure(holds: bool, number: u8) -> Result<(), u8> {
     if holds {
         Ok(())
@@ -318,7 +336,7 @@ fn ensure(holds: bool, number: u8) -> Result<(), u8> {
 
 // The second pass: the rows of an accepted job.
 
-/// What holds at a command.
+/// What holds at a command, all of it given in the command's building.
 struct Held {
     settings: Settings,
     joints: [Joint; 256],
@@ -336,7 +354,8 @@ impl Held {
         }
     }
 
-    /// Meets a command other than a block: what it gives holds from there on, and words 2 to 7 of its rows are put, in their order.
+    /// Meets a command other than a block: what it gives holds from there on in its building, and words 2 to 7 of its rows are put, in
+    /// their order.
     fn meet(&mut self, code: u8, operands: &[u8], mut put: impl FnMut([i64; 6])) {
         match code {
             SETTINGS => self.settings = Settings::read(fixed(operands)),
@@ -364,6 +383,7 @@ impl Held {
                 put(shear);
                 put(moment);
             }
+            BUILDING => *self = Held::new(),
             _ => put(Detail::read(fixed(operands)).row()),
         }
     }

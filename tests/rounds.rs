@@ -35,6 +35,10 @@ pub fn compared(
             std::process::exit(1);
         });
     }
+    if done == 0 {
+        println!("no {what} were compared");
+        std::process::exit(1);
+    }
     met.finish(done, what, wanted);
 }
 

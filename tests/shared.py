@@ -4,10 +4,10 @@ Runs every job by eak_size and eak_run, writes the listing that they give and co
 accepted one again on a word too few. Compares eak_fault with eak_size on each, and on those in docs/FORMAT.md, "Refusal 5 by operand",
 with the operand named there. Tries that words after the rows, and in a refusal every word, stay as they were; the version and the structs
 of the answers against the header's; calls with no elements; two soil values; and the job with the most rows.
-Writes each command of each accepted job again by the eak_write calls, blocks too, and compares the bytes; the structs are read from the
-header, and docs/FORMAT.md must name the same members. Writes the longest block, which fills the commands of a job. Prints the rows of each
-accepted job, and 101 others, by eak_page and compares the page with the same rows set in columns here; the columns and the values that
-they take are those of the document's table.
+Writes each command of each accepted job again by the eak_write calls, blocks and buildings too, and compares the bytes; the structs are
+read from the header, and docs/FORMAT.md must name the same members. Writes the longest block, which fills the commands of a job; tries the
+most buildings. Prints the rows of each accepted job, and 101 others, by eak_page and compares the page with the same rows set in columns
+here; the columns and the values that they take are those of the document's table.
 Prints what differs; the exit status is 0 only if nothing does. Standard library alone.
 """
 import ctypes
@@ -29,8 +29,9 @@ BASE = bytes.fromhex("06 00000064 00000064") + bytes(16)
 BASEMENT = bytes.fromhex("0C 01 00 00000000 00000001 00000000 00000001") + bytes(8)
 SET = (0, 0, 1, 1, 0, 0)
 
-# The byte of a block, and the words of a set.
+# The byte of a block, and the words of a set; the byte of another building, and how many of them a job may have.
 BLOCK, SET_WORDS = 0x0B, 6
+BUILDING, MOST_BUILDINGS = 0x0D, 16
 
 
 def struct(*fields):
@@ -59,6 +60,7 @@ CALLS = {
     "eak_run": (RUN_ANSWER, [BYTES, SIZE, ROWS, SIZE]),
     "eak_take_down": (SOIL_ANSWER, [ctypes.c_uint8, ctypes.c_float]),
     "eak_write_end": (WRITE_ANSWER, [LENT_BYTES, SIZE]),
+    "eak_write_building": (WRITE_ANSWER, [LENT_BYTES, SIZE]),
     "eak_write_block": (WRITE_ANSWER, [COUNT, SETS, SIZE, LENT_BYTES, SIZE]),
     "eak_page": (PAGE_ANSWER, [ROWS, SIZE, SIZE, LENT_BYTES, SIZE]),
 }
@@ -66,7 +68,7 @@ CALLS = {
 
 def structs_of(header):
     """The structs of the header by their names: those of the answers, and those with the values of a command, in the order of the
-    commands' bytes from 01 on; a block has none."""
+    commands' bytes from 01 on; a block and another building have none."""
     types = {"bool": "bool", "uint32_t": "u32", "uint64_t": "u64", "size_t": "size", "int32_t": "i32", "float": "f32"}
     bodies = re.findall(r"^struct eak_(\w+) \{\n(.*?)^\};", header, re.M | re.S)
     structs = {name: struct(*[f"{types[kind]} {member}" for kind, member in re.findall(r"^    (\w+) (\w+);", body, re.M)])
@@ -143,7 +145,7 @@ def write_block(library, count, words, lent, room):
 def written(library, commands, job):
     """The bytes of an accepted job, each command written again by its call where the last one ended; and a byte more, as lent."""
     layouts = dict(runpy.run_path("examples/make.py")["COMMANDS"].values())
-    names = dict(zip((code for code in sorted(layouts) if code != BLOCK), commands))
+    names = dict(zip((code for code in sorted(layouts) if code not in (BLOCK, BUILDING)), commands))
     lent = (ctypes.c_uint8 * (len(job) + 1))(*[0x5A] * (len(job) + 1))
     at = 0
     while job[at]:
@@ -152,6 +154,11 @@ def written(library, commands, job):
             words = unpack_from(f">{SET_WORDS * count}I", job, at + 2)
             answer = write_block(library, count, words, ctypes.byref(lent, at), len(job) - at)
             assert answer.bytes, f"the block at {at} is refused with {answer.number}"
+            at += answer.bytes
+            continue
+        if job[at] == BUILDING:
+            answer = library.eak_write_building(ctypes.byref(lent, at), len(job) - at)
+            assert answer.bytes, f"the building at {at} is refused with {answer.number}"
             at += answer.bytes
             continue
         name, kinds = names[job[at]], re.findall(r":(\w)", layouts[job[at]])
@@ -262,6 +269,7 @@ def refused_writes(library, commands, most, same):
         same(f"a basement member, {what}", (5, 0, 0), values(library.eak_write_basement(basement(*hinge), lent, 0)))
     same("a basement member in 26 bytes", (11, 0, 0), values(library.eak_write_basement(basement(0, 255), lent, 26)))
     same("the end in no bytes", (11, 0, 0), values(library.eak_write_end(lent, 0)))
+    same("another building in no bytes", (11, 0, 0), values(library.eak_write_building(lent, 0)))
     same("the bytes of refused commands", {0x5A}, set(lent))
     same("the most bytes", (0, 0, most), values(library.eak_write_footing(footing(500, 500), lent, most)))
     same("a footing", FOOTING, bytes(lent))
@@ -288,6 +296,21 @@ def blocks(library, defined, same):
     same("4,097 commands with a block", (8, len(before + SOIL), BLOCK, 0), values(library.eak_fault(job, len(job))))
 
 
+def buildings(library, same):
+    """Another building written; sixteen of them in a job, a seventeenth, one without settings, and one that asks for the wall before."""
+    lent = (ctypes.c_uint8 * 2)(*[0x5A] * 2)
+    same("another building", (0, 0, 1), values(library.eak_write_building(lent, 2)))
+    same("its byte", bytes([BUILDING, 0x5A]), bytes(lent))
+    begun = bytes([BUILDING]) + SETTINGS
+    most = SETTINGS + begun * (MOST_BUILDINGS - 1)
+    for what, expected, job in (
+            ("sixteen buildings", (0, 0, 0, 0), most), ("seventeen", (13, len(most), BUILDING, 0), most + begun),
+            ("another building first", (4, 0, BUILDING, 0), begun),
+            ("another building without settings", (4, len(SETTINGS) + 1, 0, 0), SETTINGS + bytes([BUILDING])),
+            ("a wall of the building before", (6, len(SETTINGS + BASE + begun), BASEMENT[0], 0), SETTINGS + BASE + begun + BASEMENT)):
+        same(what, expected, values(library.eak_fault(job + b"\0", len(job) + 1)))
+
+
 def main(path, header, jobs):
     with open(header, encoding="utf-8") as file:
         header = file.read()
@@ -309,6 +332,7 @@ def main(path, header, jobs):
     same("the members", {name: [member for member, _ in command._fields_] for name, command in commands.items()}, described())
     refused_writes(library, commands, defined["EAK_COMMAND_BYTES"], same)
     blocks(library, defined, same)
+    buildings(library, same)
     refused_pages(library, same)
     limits_of_columns(library, same)
     compare_page(library, "a page of 101 rows", [[n, 3, 1000 * n, -n, 0, n ** 5, -(n ** 5), n % 4] for n in range(101)], same)

@@ -24,6 +24,7 @@ static void page(void) { kept += eak_page(rows, sizeof rows / sizeof rows[0], 10
 static void take_down(void) { kept += eak_take_down(0, 0.7f).value; }
 static void version(void) { kept += eak_version(); }
 static void write_block(void) { kept += eak_write_block(64, sets, sizeof sets / sizeof sets[0], written, sizeof written).bytes; }
+static void write_building(void) { kept += eak_write_building(written, sizeof written).bytes; }
 static void write_end(void) { kept += eak_write_end(written, sizeof written).bytes; }
 
 /* The call that writes a command, with values in range. */
@@ -66,6 +67,7 @@ static const struct {
     {"eak_write_detail", write_detail},
     {"eak_write_basement", write_basement},
     {"eak_write_block", write_block},
+    {"eak_write_building", write_building},
     {"eak_write_end", write_end},
 };
 enum { CALLS = sizeof calls / sizeof calls[0] };

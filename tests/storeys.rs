@@ -1,10 +1,10 @@
 //! Blocks of storeys (02, No. 7): what a block of an accepted job is a case of, and what a block at fault is one of, by the faults that it
-//! has beside the one that is tried first.
+//! has beside the one that is tried first. Wall bases and settings are those of the block's building.
 //! Assumes of a fault that it is the job's.
 
 #![allow(dead_code)]
 
-use crate::generate::{self, BLOCK, MOST_COMMANDS, MOST_SETS};
+use crate::generate::{self, last_building, BLOCK, BUILDING, MOST_COMMANDS, MOST_SETS};
 use crate::reference::{self, Fault};
 
 const WALL_BASE: u8 = 6;
@@ -22,12 +22,12 @@ const NO_SETTINGS: &str = "4";
 const NO_BASE: &str = "6";
 const SET: &str = "5, set";
 
-/// Each fault with those that come later in the order and can stand beside it. A block before the settings is without a wall base too.
+/// Each fault with those that come later in the order and can stand beside it. A block before settings is without a wall base too.
 const BESIDE: [(&str, &[&str]); 7] = [
     (NO_COUNT, &[TOO_MANY, NO_SETTINGS, NO_BASE]),
     (COUNT, &[CUT, TOO_MANY, NO_SETTINGS, NO_BASE, SET]),
     (CUT, &[TOO_MANY, NO_SETTINGS, NO_BASE, SET]),
-    (TOO_MANY, &[NO_BASE, SET]),
+    (TOO_MANY, &[NO_SETTINGS, NO_BASE, SET]),
     (NO_SETTINGS, &[NO_BASE, SET]),
     (NO_BASE, &[SET]),
     (SET, &[]),
@@ -42,11 +42,7 @@ pub fn refused(job: &[u8], fault: &Fault) -> Vec<String> {
     }
     let before = generate::split(&job[..fault.offset]);
     let so_far = before.iter().map(|command| generate::weight(command)).sum();
-    let faults = faults(
-        &job[fault.offset..],
-        so_far,
-        before.iter().any(|command| command[0] == WALL_BASE),
-    );
+    let faults = faults(&job[fault.offset..], so_far, last_building(&before));
     let (first, later) = faults.split_first().expect("a block at fault");
     assert!(first.starts_with(&fault.number.to_string()), "{faults:?}");
     let mut cases = vec![first.to_string()];
@@ -65,8 +61,9 @@ fn before_another(first: &str, other: &str) -> String {
     format!("{first} before {other}")
 }
 
-/// The faults that a block has, in the order of trial.
-fn faults(block: &[u8], so_far: usize, base: bool) -> Vec<&'static str> {
+/// The faults that a block has after so many commands, with those of its building, in the order of trial.
+fn faults(block: &[u8], so_far: usize, building: &[Vec<u8>]) -> Vec<&'static str> {
+    let base = building.iter().any(|command| command[0] == WALL_BASE);
     let given = block.get(1).map(|&count| usize::from(count));
     let count = given.unwrap_or(1);
     let sets = || block[2..].chunks_exact(24).take(count);
@@ -75,7 +72,7 @@ fn faults(block: &[u8], so_far: usize, base: bool) -> Vec<&'static str> {
         (COUNT, !(1..=MOST_SETS).contains(&count)),
         (CUT, given.is_some_and(|count| block.len() < 2 + 24 * count)),
         (TOO_MANY, so_far + count > MOST_COMMANDS),
-        (NO_SETTINGS, so_far == 0),
+        (NO_SETTINGS, building.is_empty()),
         (NO_BASE, !base),
         (SET, given.is_some() && sets().any(out_of_range)),
     ];
@@ -148,7 +145,11 @@ pub fn accepted(job: &[u8]) -> Vec<String> {
     let mut cases = Vec::new();
     for (place, command) in commands.iter().enumerate() {
         so_far += generate::weight(command);
-        bases += usize::from(command[0] == WALL_BASE);
+        match command[0] {
+            WALL_BASE => bases += 1,
+            BUILDING => bases = 0,
+            _ => (),
+        }
         if command[0] != BLOCK {
             continue;
         }
@@ -180,6 +181,7 @@ fn kind_of(command: &[u8]) -> &'static str {
         WALL_BASE => "a wall base",
         STOREY => "a storey",
         BLOCK => "a block",
+        BUILDING => "a building",
         0 => "the end",
         _ => "another command",
     }
@@ -209,7 +211,7 @@ pub fn wanted() -> Vec<String> {
     for kind in [WALL_BASE, STOREY, BLOCK, 1] {
         wanted.push(format!("after {}", kind_of(&[kind])));
     }
-    for kind in [WALL_BASE, STOREY, BLOCK, 1, 0] {
+    for kind in [WALL_BASE, STOREY, BLOCK, BUILDING, 1, 0] {
         wanted.push(format!("before {}", kind_of(&[kind])));
     }
     wanted.extend(["of a later wall", "fills the commands"].map(str::to_string));

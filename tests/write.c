@@ -36,6 +36,11 @@ static const struct eak_soil soil = {0, 0.7f, 0};
 static const struct eak_footing footing = {2200, 2200, 260000, 130000, 800000, 0, 20000, 60000, 0, 0, 15000, 55000, 0, 100000, 4};
 /* place, xu, xy, mu, lap */
 static const struct eak_detail detail = {2, 131, 250, 1000, 0};
+/* of another building, in the order of the same members: its settings, its own joint 1, its members */
+static const struct eak_settings other_settings = {150, 120, 100};
+static const struct eak_joint other_joint = {1, 90000, 150000, 80000};
+static const struct eak_column other_column = {2500, 180000, 165000, 170000, 185000, 62000, 95000};
+static const struct eak_hingeless other_member = {2500, 1, 1, 60000, 45000, 0, 60000};
 
 static uint8_t job[65536];
 static size_t bytes; /* of the job so far: the next command goes to job + bytes */
@@ -66,6 +71,11 @@ static void write_job(void) {
     put(eak_write_soil(soil, job + bytes, sizeof job - bytes), "soil");
     put(eak_write_footing(footing, job + bytes, sizeof job - bytes), "footing F1");
     put(eak_write_detail(detail, job + bytes, sizeof job - bytes), "detail of wall W1");
+    put(eak_write_building(job + bytes, sizeof job - bytes), "another building");
+    put(eak_write_settings(other_settings, job + bytes, sizeof job - bytes), "its settings");
+    put(eak_write_joint(other_joint, job + bytes, sizeof job - bytes), "its joint 1");
+    put(eak_write_column(other_column, job + bytes, sizeof job - bytes), "its column C1");
+    put(eak_write_hingeless(other_member, job + bytes, sizeof job - bytes), "its member N1");
     put(eak_write_end(job + bytes, sizeof job - bytes), "end");
 }
 

@@ -12,7 +12,7 @@ mod library;
 mod reference;
 mod rounds;
 
-use generate::{Random, BASEMENT, BLOCK};
+use generate::{Random, BASEMENT, BLOCK, BUILDING};
 use library::write::{write_block, write_command};
 use reference::{Command, Written};
 use rounds::Met;
@@ -22,7 +22,7 @@ use std::cmp::Ordering;
 const GUARD: usize = 64;
 
 /// The commands by their bytes, blocks apart.
-const CODES: [u8; 12] = [0, 1, 2, 3, 4, 5, 6, 7, 8, 9, 10, BASEMENT];
+const CODES: [u8; 13] = [0, 1, 2, 3, 4, 5, 6, 7, 8, 9, 10, BASEMENT, BUILDING];
 const SOIL: u8 = 8;
 
 fn main() {
@@ -40,7 +40,7 @@ fn main() {
 
 /// A command of each kind in turn; with every twentieth a file of commands.
 fn compare(random: &mut Random, number: u64, met: &mut Met) -> Result<(), String> {
-    let code = (number % 13) as u8;
+    let code = (number % 14) as u8;
     if code == BLOCK {
         met.add(block(random)?);
     } else {
@@ -140,7 +140,7 @@ fn file(random: &mut Random) -> Result<(), String> {
     let mut at = 0;
     let mut accepted = Vec::new();
     for _ in 0..random.below(40) {
-        let code = random.between(1, 12) as u8;
+        let code = random.between(1, 13) as u8;
         let room = &mut bytes[at..length - 1];
         let answer = if code == BLOCK {
             let (count, words) = generate::block(random);
@@ -309,7 +309,7 @@ fn wanted() -> Vec<String> {
         ] {
             wanted.push(case(code, outcome));
         }
-        if code != 0 {
+        if width(code) > 1 {
             for outcome in [
                 "11, shorter",
                 "5, exact room",

@@ -1,8 +1,9 @@
 //! Basement members (02, No. 9): in range, under a joint or under the latest wall; jobs with one that mostly is at fault, whole and cut;
-//! and the job with the most rows.
+//! in the only building of a file or behind another; and the job with the most rows.
 //! Assumes of a place that it is 0 or 1.
 
 use super::blocks::commands;
+use super::buildings::at_times_behind_another;
 use super::faults::{one_of, put};
 use super::values::Random;
 use super::{Mix, Writer, BASEMENT, MOST_COMMANDS, WALL_BASE};
@@ -45,15 +46,16 @@ pub fn most_rows(random: &mut Random) -> Vec<u8> {
     writer.job
 }
 
-/// A job with a member that mostly is at fault: as its first command, or after commands with joints, walls, both or neither.
+/// A job with a member that mostly is at fault: as the first command of a building, or after commands with joints, walls, both or neither.
 pub fn basement_at_fault(random: &mut Random) -> Vec<u8> {
-    let mut job = match random.below(8) {
+    let before = match random.below(8) {
         0 => vec![],
         1 => commands(random, 1, 10, &NEITHER),
         2 | 3 => commands(random, 2, 10, &JOINTS),
         4 | 5 => commands(random, 2, 10, &WALLS),
         _ => commands(random, 2, 10, &BOTH),
     };
+    let mut job = at_times_behind_another(random, before);
     let member = basement(random);
     let cut = match random.below(12) {
         0 => 1,

@@ -1,10 +1,11 @@
 //! Jobs that end with a block of storeys (02, No. 7), whole and cut, in range and not: before the settings, without a wall base, after
-//! one, and where the commands come to their limit.
+//! one, in a building behind another, and where the commands come to their limit.
 //! Assumes nothing.
 
+use super::buildings::at_times_behind_another;
 use super::faults::{count_out_of_range, put};
 use super::values::Random;
-use super::{valid, Mix, Writer, BLOCK, MOST_COMMANDS, MOST_SETS, SET};
+use super::{valid, Mix, Writer, BLOCK, BUILDING, MOST_COMMANDS, MOST_SETS, SET};
 
 /// How often each of the commands 02 to 0C is drawn: without walls, and mostly walls.
 const NO_WALLS: Mix = Mix([2, 1, 1, 2, 0, 0, 1, 2, 1, 0, 1]);
@@ -22,7 +23,7 @@ pub fn count(random: &mut Random) -> usize {
     }
 }
 
-/// A job with a block that mostly is at fault: as its first command, without a wall base, or after one.
+/// A job with a block that mostly is at fault: as the first command of a building, without a wall base, or after one.
 pub fn block_at_fault(random: &mut Random) -> Vec<u8> {
     let count = count(random);
     let before = match random.below(6) {
@@ -31,11 +32,12 @@ pub fn block_at_fault(random: &mut Random) -> Vec<u8> {
         2 => commands(random, 2, 90, &WALLS),
         _ => commands(random, 2, 10, &WALLS),
     };
+    let before = at_times_behind_another(random, before);
     with_block(random, before, count)
 }
 
 /// A job in which a block fills the 4,096 commands, passes them by one or by more, or comes when they are full; with a wall base or
-/// without.
+/// without, or where the settings of another building should be.
 pub fn block_at_limit(random: &mut Random) -> Vec<u8> {
     let count = count(random);
     let so_far = MOST_COMMANDS
@@ -46,7 +48,12 @@ pub fn block_at_limit(random: &mut Random) -> Vec<u8> {
             _ => 0,
         };
     let code = [8, 8, 6, 7, BLOCK, BLOCK][random.below(6) as usize];
-    let before = commands(random, so_far, so_far, &Mix::only(code));
+    let begun = random.one_in(6);
+    let others = so_far - usize::from(begun);
+    let mut before = commands(random, others, others, &Mix::only(code));
+    if begun {
+        before.push(BUILDING);
+    }
     with_block(random, before, count)
 }
 

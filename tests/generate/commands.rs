@@ -51,7 +51,7 @@ pub fn block(random: &mut Random) -> (u32, Vec<u32>) {
     (count, words)
 }
 
-/// A command of the byte `code`, 00 to 0A or 0C. At least half of them are in range.
+/// A command of the byte `code`, 00 to 0D, not a block. At least half of them are in range.
 pub fn command(random: &mut Random, code: u8) -> Command {
     let operands = operands(code);
     let mut values = in_range(random, code, &operands);

@@ -47,7 +47,7 @@ impl Random {
     }
 }
 
-/// Operands of one job, with the factors of its settings.
+/// Operands of one job, with the factors of the latest settings.
 pub struct Values<'r> {
     pub random: &'r mut Random,
     pub q: u64,
@@ -63,10 +63,15 @@ impl<'r> Values<'r> {
             gj: 0,
             gf: 0,
         };
-        values.q = values.side(100, 400);
-        values.gj = values.side(100, 200);
-        values.gf = values.side(100, 200);
+        values.draw_factors();
         values
+    }
+
+    /// The factors of other settings.
+    pub fn draw_factors(&mut self) {
+        self.q = self.side(100, 400);
+        self.gj = self.side(100, 200);
+        self.gf = self.side(100, 200);
     }
 
     /// A number of a range, its ends more often than others.

@@ -1,8 +1,9 @@
-//! Basement members at fault (02, No. 9): what one is a case of, by the faults that it has beside the one that is tried first.
+//! Basement members at fault (02, No. 9): what one is a case of, by the faults that it has beside the one that is tried first. Joints, wall
+//! bases and settings are those of the member's building.
 //! Assumes of a fault that it is the job's.
 
 use super::{amount, named, BYTES, ID, JOINT, MOMENT, PLACE, SHEAR, WALL_BASE};
-use crate::generate::{self, BASEMENT, MOST_COMMANDS};
+use crate::generate::{self, last_building, BASEMENT, MOST_COMMANDS};
 use crate::reference::Fault;
 
 /// The faults in the order of trial; an operand out of its own range comes before the id of a wall.
@@ -18,7 +19,10 @@ const NO_WALL: &str = "6, wall";
 /// Each fault with those that come later in the order and can stand beside it.
 const BESIDE: [(&str, &[&str]); 8] = [
     (CUT, &[TOO_MANY, NO_SETTINGS]),
-    (TOO_MANY, &[NO_PLACE, OPERAND, WALL_ID, NO_JOINT, NO_WALL]),
+    (
+        TOO_MANY,
+        &[NO_SETTINGS, NO_PLACE, OPERAND, WALL_ID, NO_JOINT, NO_WALL],
+    ),
     (
         NO_SETTINGS,
         &[NO_PLACE, OPERAND, WALL_ID, NO_JOINT, NO_WALL],
@@ -37,7 +41,9 @@ pub fn refused(job: &[u8], fault: &Fault) -> Vec<String> {
     }
     let (before, member) = job.split_at(fault.offset);
     let before = generate::split(before);
-    let faults = faults(&before, member);
+    let so_far = before.iter().map(|command| generate::weight(command)).sum();
+    let before = last_building(&before);
+    let faults = faults(before, so_far, member);
     let (first, later) = faults.split_first().expect("a member at fault");
     let operand = match *first {
         WALL_ID => 1,
@@ -62,16 +68,15 @@ pub fn refused(job: &[u8], fault: &Fault) -> Vec<String> {
     named(cases)
 }
 
-/// The faults that a member has after these commands, in the order of trial.
-fn faults(before: &[Vec<u8>], member: &[u8]) -> Vec<&'static str> {
-    let so_far: usize = before.iter().map(|command| generate::weight(command)).sum();
+/// The faults that a member has after these commands of its building and so many of the file, in the order of trial.
+fn faults(before: &[Vec<u8>], so_far: usize, member: &[u8]) -> Vec<&'static str> {
     let has = |start: &[u8]| before.iter().any(|command| command.starts_with(start));
     let whole = member.get(..BYTES);
     let is = |test: &dyn Fn(u8, u8) -> bool| whole.is_some_and(|one| test(one[PLACE], one[ID]));
     let tried = [
         (CUT, whole.is_none()),
         (TOO_MANY, so_far == MOST_COMMANDS),
-        (NO_SETTINGS, so_far == 0),
+        (NO_SETTINGS, before.is_empty()),
         (NO_PLACE, is(&|place, _| place > 1)),
         (OPERAND, whole.is_some_and(out_of_range)),
         (WALL_ID, is(&|place, id| place == 1 && id != 0)),

@@ -92,7 +92,6 @@ declare! {
 }
 
 extern "C" {
-    fn eak_write_end(bytes: *mut u8, room: usize) -> WriteAnswer;
     fn eak_write_block(
         count: u32,
         sets: *const u32,
@@ -102,20 +101,33 @@ extern "C" {
     ) -> WriteAnswer;
 }
 
-/// The end, which has no struct.
-#[derive(Clone, Copy)]
-pub struct End;
+/// Declares a command without operands, which has no struct, and its call.
+macro_rules! declare_alone {
+    ($($name:ident $call:ident)+) => { $(
+        #[derive(Clone, Copy)]
+        pub struct $name;
 
-impl Values for End {
-    fn of(values: &[i64]) -> End {
-        assert!(values.is_empty(), "a member a value");
-        End
-    }
+        extern "C" {
+            fn $call(bytes: *mut u8, room: usize) -> WriteAnswer;
+        }
 
-    #[inline(always)]
-    fn write(self, bytes: &mut [u8]) -> WriteAnswer {
-        unsafe { eak_write_end(bytes.as_mut_ptr(), bytes.len()) }
-    }
+        impl Values for $name {
+            fn of(values: &[i64]) -> $name {
+                assert!(values.is_empty(), "a member a value");
+                $name
+            }
+
+            #[inline(always)]
+            fn write(self, bytes: &mut [u8]) -> WriteAnswer {
+                unsafe { $call(bytes.as_mut_ptr(), bytes.len()) }
+            }
+        }
+    )+ };
+}
+
+declare_alone! {
+    Building eak_write_building
+    End eak_write_end
 }
 
 /// The sets of a block, which have no struct: six words a set.
@@ -159,7 +171,8 @@ pub fn write_command(command: &Command, bytes: &mut [u8]) -> Written {
             block(values[0], &values[1..], bytes)
         }
         12 => Basement::of(values).write(bytes),
-        _ => unreachable!("a command of 00 to 0C"),
+        13 => Building::of(values).write(bytes),
+        _ => unreachable!("a command of 00 to 0D"),
     };
     found.into()
 }

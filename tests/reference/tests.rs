@@ -1,8 +1,9 @@
 //! Tries the calls where a listing does not show them: short and long slices, the three numbers of a run, the operand at fault, take-down,
-//! writing, printing. Where q governs, at equality and on both sides of it; footings with each of their flags; storeys in blocks; and
-//! basement members.
+//! writing, printing. Where q governs, at equality and on both sides of it; footings with each of their flags; storeys in blocks;
+//! basement members; and several buildings in a file.
 
 mod basement;
+mod buildings;
 
 use super::members::Coefficient;
 use super::{at_fault, commands, layout, read_command, write_block, write_command};
@@ -92,7 +93,7 @@ fn the_order_of_trial_at_the_limit() {
     assert_eq!(then(&[0]), Ok(0));
     assert_eq!(then(&[]), refusal(1, at, 0));
     assert_eq!(then(&[0, 0]), refusal(3, at + 1, 0));
-    assert_eq!(then(&[13]), refusal(2, at, 0));
+    assert_eq!(then(&[14]), refusal(2, at, 0));
     assert_eq!(then(&[1, 0, 0]), refusal(1, at, 0));
     assert_eq!(then(&JOB[..7]), refusal(8, at, 0));
     assert_eq!(then(&[8, 9, 0, 0, 0, 0, 0]), refusal(8, at, 0));
@@ -493,8 +494,8 @@ fn each_operand_of_a_block_is_named() {
 
 // The operand at fault.
 
-/// The widths of each command's operands, from 01 to 0C; a block has none here.
-const OPERANDS: [&[usize]; 12] = [
+/// The widths of each command's operands, from 01 to 0D; a block has none here.
+const OPERANDS: [&[usize]; 13] = [
     &[2; 3],
     &[1, 4, 4, 4],
     &[4; 7],
@@ -507,6 +508,7 @@ const OPERANDS: [&[usize]; 12] = [
     &[1, 2, 2, 2, 1],
     &[],
     &[1, 1, 4, 4, 4, 4, 4, 4],
+    &[],
 ];
 
 /// A command in range with each operand 0 where 0 is in range, else the least; `set` are the places and numbers that differ.
@@ -567,7 +569,7 @@ fn a_fault_has_the_byte_at_its_offset() {
     assert_eq!(fault(&JOB[..25]), at(1, 25, 0));
     assert_eq!(fault(&JOB[..24]), at(1, 16, 10));
     assert_eq!(fault(&[255]), at(2, 0, 255));
-    assert_eq!(fault_of(&[vec![13]]), at(2, 7, 13));
+    assert_eq!(fault_of(&[vec![14]]), at(2, 7, 14));
     assert_eq!(fault_of(&[vec![0, 255]]), at(3, 8, 255));
     assert_eq!(fault_of(&[vec![0]]), at(3, 8, 0));
     assert_eq!(fault(&[0, 9]), at(4, 0, 0));

@@ -1,5 +1,5 @@
-//! Requests No. 2, 7 and 9 of document 02: one command written from its values; and the commands that bytes hold, by their values.
-//! Assumes that a command to be written is one of 00 to 0C and has as many values as the documents give it operands; after a count out
+//! Requests No. 2, 7, 9 and 10 of document 02: one command written from its values; and the commands that bytes hold, by their values.
+//! Assumes that a command to be written is one of 00 to 0D and has as many values as the documents give it operands; after a count out
 //! of range a block may have any.
 
 #![allow(dead_code)]
@@ -45,7 +45,7 @@ const SOIL_VALUE: Operand = (4, 0, u32::MAX as i64);
 /// The operands of a command other than a block in the order of the file.
 pub fn layout(code: u8) -> Vec<Operand> {
     match code {
-        END => vec![],
+        END | BUILDING => vec![],
         SETTINGS => vec![(2, 100, 400), OVERSTRENGTH, OVERSTRENGTH],
         JOINT => vec![ID, AMOUNT, AMOUNT, AMOUNT],
         COLUMN => [vec![LENGTH], vec![AMOUNT; 6]].concat(),
@@ -62,7 +62,7 @@ pub fn layout(code: u8) -> Vec<Operand> {
         .concat(),
         DETAIL => vec![(1, 0, 2), DEPTH, DEPTH, (2, 1000, 2000), YES_NO],
         BASEMENT => vec![PLACE, ID, SIGNED, AMOUNT, SIGNED, AMOUNT, AMOUNT, AMOUNT],
-        _ => unreachable!("a command of 00 to 0A, or 0C"),
+        _ => unreachable!("a command of 00 to 0D, not a block"),
     }
 }
 
@@ -185,7 +185,7 @@ pub fn read_command(bytes: &[u8]) -> Option<Command> {
     }
     let operands = rest.get(..width(code)?)?;
     let values = match code {
-        END => vec![],
+        END | BUILDING => vec![],
         SETTINGS => Settings::read(fixed(operands)).values(),
         JOINT => {
             let (id, joint) = Joint::read(fixed(operands));

@@ -2,21 +2,21 @@
 -- nothing.
 use mathlib.Core.Bool.{Bool, true, false, cond}
 use mathlib.Core.List.{List, [], ◌∷◌}
-use mathlib.Core.Path.{◌≡◌, refl, sym, ap}
+use mathlib.Core.Path.{◌≡◌, refl, sym, ap, ◌∙◌}
 use Prim.Native.Nat.{ℕ, suc, ◌+◌, ◌*◌, ◌≤◌}
 use native.Mathlib.Omega.{arith}
 use borrow.Author.Tests.{eqb-true}
-use lib.ListN.{length}
+use lib.ListN.{length, length-map}
 use Rattle.layout.specs.Layouts.{known, operands_width}
 use Rattle.layout.specs.Operands.{byte_at}
 use Rattle.walls.specs.declared.Storey.{Storey}
 use Rattle.format.specs.declared.Command.{Command}
-use Rattle.format.specs.declared.Command.TheVariants.{Finish as finish, Settings as settings, Joint as joint, Column as column, Beam as beam, Hingeless as hingeless, WallBase as wall_base, Storey as storey, Soil as soil, Footing as footing, Detail as detail, Basement as basement}
+use Rattle.format.specs.declared.Command.TheVariants.{Finish as finish, Settings as settings, Joint as joint, Column as column, Beam as beam, Hingeless as hingeless, WallBase as wall_base, Storey as storey, Soil as soil, Footing as footing, Detail as detail, Basement as basement, Building as building}
 use Rattle.format.specs.Commands.{byte_of}
 use Rattle.format.specs.Reading.{command_at}
 use Rattle.format.proofs.CommandRead.{byte_read as command-byte}
 use Rattle.blocks.specs.Sets.{is_block, count_at, sets_of}
-use Rattle.blocks.specs.FileCommands.{one, block, file_byte_of, file_command_at, width_of, width_at, storeys_from}
+use Rattle.blocks.specs.FileCommands.{FileCommand, one, block, file_byte_of, file_command_at, width_of, width_at, storeys_from, commands_from, given}
 use Rattle.blocks.proofs.Sets.{storeys_length}
 
 module _ (job : List ℕ) (at : ℕ) where
@@ -59,6 +59,7 @@ no_block (soil s) = refl
 no_block (footing f) = refl
 no_block (detail d) = refl
 no_block (basement id m) = refl
+no_block building = refl
 
 -- a command of a file that is one by itself is read as such
 pub one_read : (job : List ℕ) (at : ℕ) (c : Command) → file_command_at job at ≡ one c → command_at job at ≡ c
@@ -91,7 +92,11 @@ module _ (job : List ℕ) (start : ℕ) where
       by true e = rw (storeys_length (count_at job start) job (start + 2))
       by false e = rw (command-byte job start (k e))
 
--- as many commands as storeys
+-- as many commands as storeys, and as are given
 pub storeys_many : (at : ℕ) (ss : List Storey) → length (storeys_from at ss) ≡ length ss
 storeys_many at [] = refl
 storeys_many at (s ∷ ss) = ap suc (storeys_many (at + 24) ss)
+
+pub given_many : (at : ℕ) (c : FileCommand) → length (commands_from at c) ≡ length (given c)
+given_many at (one c) = refl
+given_many at (block ss) = storeys_many (at + 2) ss ∙ sym (length-map ss (λ s. storey s))

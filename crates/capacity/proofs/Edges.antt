@@ -37,7 +37,7 @@ use Rattle.context.specs.Context.{next, absent}
 use Rattle.rows.specs.Rows.{rows_of, rows_with}
 use Rattle.rows.specs.Writing.{joined}
 use Rattle.blocks.specs.FileCommands.{file_command_at, width_at}
-use Rattle.job.specs.Faults.{too_many, misplaced, command_tests, tests_at}
+use Rattle.job.specs.Faults.{too_many, seventeenth, misplaced, command_tests, tests_at}
 use Rattle.job.specs.Placed.{listed_by, listed, placed, all_rows}
 use Rattle.totals.specs.Rows.{verdict_at, row_failed, checks_of, verdict_sum, rows_failed, checks_failed}
 use Rattle.capacity.specs.Calls.{ran_answer, run_of, rows_after}
@@ -290,7 +290,7 @@ pub record Edges : Type 0 where
 
 pub edges : Edges
 unfolding
-    run_of rows_after verdict_at row_failed checks_of verdict_sum rows_failed checks_failed ones_in ones placed listed listed_by all_rows rows_of rows_with tests_at command_tests file_command_at width_at too_many misplaced known known_in forms_of forms_in operands_width width_of_all width command_at command_of read_operands number number_after in_range all_in_range
+    run_of rows_after verdict_at row_failed checks_of verdict_sum rows_failed checks_failed ones_in ones placed listed listed_by all_rows rows_of rows_with tests_at command_tests file_command_at width_at too_many seventeenth misplaced known known_in forms_of forms_in operands_width width_of_all width command_at command_of read_operands number number_after in_range all_in_range
     form_in_range related within within_signed signed32 bits32 next absent column_row beam_row hingeless_row basement_row detail_row base_row base_row_from storey_row storey_row_from footing_row base_resistance coefficient_of cap_governs smaller up down up_ℤ down_ℤ
     first_from least_root soil_allowed soil_holding value_allowed kind_known top_of factor_of allowed cut taken take_down tangent_of accepted refused of_bits
 edges =

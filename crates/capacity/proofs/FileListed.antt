@@ -19,16 +19,19 @@ use Rattle.blocks.specs.FileCommands.{FileCommand, one, block, width_of, storeys
 use Rattle.writing.specs.Bytes.{bytes_of, file_bytes_of}
 use Rattle.writing.specs.Answers.{file_in_range}
 use Rattle.writing.specs.Files.{OfFileTypes, Writable, AllWritable, all_bytes}
-use Rattle.writing.proofs.Answered.{file_bytes_width, end_in_range}
+use Rattle.format.proofs.RangeTest.{end_in_range}
+use Rattle.writing.proofs.Answered.{file_bytes_width}
 use Rattle.writing.proofs.BlockReadBack.{byte_there, width_there, read_back}
 use Rattle.writing.proofs.FileReadBack.{end_byte, all_and_end}
 use Rattle.context.specs.Context.{Context, nothing, next}
 use Rattle.rows.specs.Rows.{rows_of, words}
+use Rattle.job.specs.declared.Counts.{Counts}
+use Rattle.job.specs.Counts.{first_counts, counted}
 use Rattle.job.specs.Faults.{tests_at, after_command}
 use Rattle.job.specs.Placed.{place_each, Entry, entry_at, commands_in, placed_in, placed_all, Listing, refused, accepted, before, listed_by, listed, all_rows}
-use Rattle.job.proofs.PlacedCases.{not_both, weight_at, context_behind, rest_after, placed_end, placed_goes, by_cases}
+use Rattle.job.proofs.PlacedCases.{not_both, counts_behind, context_behind, rest_after, placed_end, placed_goes, by_cases}
 use Rattle.job.proofs.AlreadyMet.{rows_of_both}
-use Rattle.job.proofs.Passing.{Passes, PassesAt, EndPasses, through, Whole, tests_pass, tests_passed, end_pass, end_passed, weight_is, context_is, passes_few}
+use Rattle.job.proofs.Passing.{Passes, PassesAt, EndPasses, through, Whole, tests_pass, tests_passed, end_pass, end_passed, counts_are, context_is, passes_few}
 use Rattle.capacity.specs.Singly.{file_of, without_offsets}
 
 -- ---- the commands of a file, as they stand in it
@@ -54,7 +57,7 @@ rest_of cs = all_bytes cs ++ (bytes_of finish ++ [])
 
 -- ---- at the end
 
-module _ (front : List ℕ) (n count : ℕ) (h : Context) where
+module _ (front : List ℕ) (n : ℕ) (counts : Counts) (h : Context) where
   abbrev ended : List ℕ
   ended = front ++ (bytes_of finish ++ [])
 
@@ -64,18 +67,18 @@ module _ (front : List ℕ) (n count : ℕ) (h : Context) where
   end_length : length ended ≡ length front + 1
   end_length = length-append front (bytes_of finish ++ []) ∙ ap (λ (k : ℕ). length front + k) (ap length (append-nil (bytes_of finish) ∙ end_byte))
 
-  end_accepted : EndPasses h → listed_by tests_at (suc n) ended (length front) count h ≡ accepted []
+  end_accepted : EndPasses h → listed_by tests_at (suc n) ended (length front) counts h ≡ accepted []
   end_accepted p =
-      placed_end tests_at n ended (length front) count h (omega (arith, end_length)) (end_pass ended (length front) count h end_whole p) end_whole.byte (omega (arith, end_length))
+      placed_end tests_at n ended (length front) counts h (omega (arith, end_length)) (end_pass ended (length front) counts h end_whole p) end_whole.byte (omega (arith, end_length))
 
-  end_passing : (es : List Entry) → listed_by tests_at (suc n) ended (length front) count h ≡ accepted es → EndPasses h
+  end_passing : (es : List Entry) → listed_by tests_at (suc n) ended (length front) counts h ≡ accepted es → EndPasses h
   end_passing es =
-      by_cases tests_at n ended (length front) count h (λ j. j ≡ accepted es → EndPasses h) (λ l q. absurd (not_both q)) (λ l k e q. absurd (not_both q)) (λ l e b m q. absurd (not_both q))
-      (λ l e b m q. end_passed ended (length front) count h end_whole e) (λ l e b q. absurd (b end_whole.byte))
+      by_cases tests_at n ended (length front) counts h (λ j. j ≡ accepted es → EndPasses h) (λ l q. absurd (not_both q)) (λ l k e q. absurd (not_both q)) (λ l e b m q. absurd (not_both q))
+      (λ l e b m q. end_passed ended (length front) counts h end_whole e) (λ l e b q. absurd (b end_whole.byte))
 
 -- ---- at a command
 
-module _ (front : List ℕ) (c : FileCommand) (cs : List FileCommand) (w : Writable c) (n count : ℕ) (h : Context) where
+module _ (front : List ℕ) (c : FileCommand) (cs : List FileCommand) (w : Writable c) (n : ℕ) (counts : Counts) (h : Context) where
   abbrev job : List ℕ
   job = front ++ (file_bytes_of c ++ rest_of cs)
 
@@ -92,33 +95,33 @@ module _ (front : List ℕ) (c : FileCommand) (cs : List FileCommand) (w : Writa
   inside = omega (arith, here.whole, width_some job (length front))
 
   -- what follows it is the file from the next command on
-  rest_is : rest_after tests_at n job (length front) count h ≡ listed_by tests_at n ((front ++ file_bytes_of c) ++ rest_of cs) (length (front ++ file_bytes_of c)) (count + length (given c)) (through h (given c))
+  rest_is : rest_after tests_at n job (length front) counts h ≡ listed_by tests_at n ((front ++ file_bytes_of c) ++ rest_of cs) (length (front ++ file_bytes_of c)) (counted counts c) (through h (given c))
   rest_is =
-      ap (λ (k : ℕ). listed_by tests_at n job k (count + weight_at job (length front)) (context_behind job (length front) h)) next_front
-      ∙ ap (λ (k : ℕ). listed_by tests_at n job (length (front ++ file_bytes_of c)) (count + k) (context_behind job (length front) h)) (weight_is job (length front) c here)
-      ∙ ap (listed_by tests_at n job (length (front ++ file_bytes_of c)) (count + length (given c))) (context_is job (length front) c here h)
-      ∙ ap (λ (l : List ℕ). listed_by tests_at n l (length (front ++ file_bytes_of c)) (count + length (given c)) (through h (given c))) (sym (append_assoc front (file_bytes_of c) (rest_of cs)))
+      ap (λ (k : ℕ). listed_by tests_at n job k (counts_behind job (length front) counts) (context_behind job (length front) h)) next_front
+      ∙ ap (λ (k : Counts). listed_by tests_at n job (length (front ++ file_bytes_of c)) k (context_behind job (length front) h)) (counts_are job (length front) c here counts)
+      ∙ ap (listed_by tests_at n job (length (front ++ file_bytes_of c)) (counted counts c)) (context_is job (length front) c here h)
+      ∙ ap (λ (l : List ℕ). listed_by tests_at n l (length (front ++ file_bytes_of c)) (counted counts c) (through h (given c))) (sym (append_assoc front (file_bytes_of c) (rest_of cs)))
 
-  goes_accepted : PassesAt count h c → (es : List Entry) →
-      listed_by tests_at n ((front ++ file_bytes_of c) ++ rest_of cs) (length (front ++ file_bytes_of c)) (count + length (given c)) (through h (given c)) ≡ accepted es →
-      listed_by tests_at (suc n) job (length front) count h ≡ accepted (record { offset = length front; given = c; context = h } ∷ es)
+  goes_accepted : PassesAt counts h c → (es : List Entry) →
+      listed_by tests_at n ((front ++ file_bytes_of c) ++ rest_of cs) (length (front ++ file_bytes_of c)) (counted counts c) (through h (given c)) ≡ accepted es →
+      listed_by tests_at (suc n) job (length front) counts h ≡ accepted (record { offset = length front; given = c; context = h } ∷ es)
   goes_accepted p es e =
-      placed_goes tests_at n job (length front) count h inside (tests_pass job (length front) count h c here p) no_end
+      placed_goes tests_at n job (length front) counts h inside (tests_pass job (length front) counts h c here p) no_end
       ∙ ap (before (entry_at job (length front) h)) (rest_is ∙ e)
       ∙ ap (λ (x : FileCommand). accepted (record { offset = length front; given = x; context = h } ∷ es)) here.read
 
   -- it passes, and the file from the next command on is accepted
   record Passing : Type 0 where
-    pub own : PassesAt count h c
+    pub own : PassesAt counts h c
     pub later : List Entry
-    pub rest : listed_by tests_at n ((front ++ file_bytes_of c) ++ rest_of cs) (length (front ++ file_bytes_of c)) (count + length (given c)) (through h (given c)) ≡ accepted later
+    pub rest : listed_by tests_at n ((front ++ file_bytes_of c) ++ rest_of cs) (length (front ++ file_bytes_of c)) (counted counts c) (through h (given c)) ≡ accepted later
 
-  goes_passing : (es : List Entry) → listed_by tests_at (suc n) job (length front) count h ≡ accepted es → Passing
+  goes_passing : (es : List Entry) → listed_by tests_at (suc n) job (length front) counts h ≡ accepted es → Passing
   goes_passing es =
-      by_cases tests_at n job (length front) count h (λ j. j ≡ accepted es → Passing) (λ l q. absurd (not_both q)) (λ l k e q. absurd (not_both q)) (λ l e b m q. absurd (not_both q))
-      (λ l e b m q. absurd (no_end b)) (λ l e b q. behind (tests_passed job (length front) count h c here w.other e) (rest_after tests_at n job (length front) count h) refl q)
+      by_cases tests_at n job (length front) counts h (λ j. j ≡ accepted es → Passing) (λ l q. absurd (not_both q)) (λ l k e q. absurd (not_both q)) (λ l e b m q. absurd (not_both q))
+      (λ l e b m q. absurd (no_end b)) (λ l e b q. behind (tests_passed job (length front) counts h c here w.other e) (rest_after tests_at n job (length front) counts h) refl q)
     where
-      behind : PassesAt count h c → (j : Listing) → rest_after tests_at n job (length front) count h ≡ j → before (entry_at job (length front) h) j ≡ accepted es → Passing
+      behind : PassesAt counts h c → (j : Listing) → rest_after tests_at n job (length front) counts h ≡ j → before (entry_at job (length front) h) j ≡ accepted es → Passing
       behind p (refused number offset) r q = absurd (not_both q)
       behind p (accepted later) r q = record { own = p; later = later; rest = sym rest_is ∙ r }
 
@@ -128,41 +131,41 @@ split : (front : List ℕ) (c : FileCommand) (cs : List FileCommand) → front +
 unfolding all_bytes
 split front c cs = ap (λ (l : List ℕ). front ++ l) (append_assoc (file_bytes_of c) (all_bytes cs) (bytes_of finish ++ []))
 
-from_accepted : (cs : List FileCommand) → AllWritable cs → (front : List ℕ) (n count : ℕ) (h : Context) → length cs < n → Passes count h cs → listed_by tests_at n (front ++ rest_of cs) (length front) count h ≡ accepted (entries_from (length front) h cs)
+from_accepted : (cs : List FileCommand) → AllWritable cs → (front : List ℕ) (n : ℕ) (counts : Counts) (h : Context) → length cs < n → Passes counts h cs → listed_by tests_at n (front ++ rest_of cs) (length front) counts h ≡ accepted (entries_from (length front) h cs)
 unfolding all_bytes
-from_accepted [] w front zero count h l p = absurd (not-suc-le-zero l)
-from_accepted (c ∷ cs) w front zero count h l p = absurd (not-suc-le-zero l)
-from_accepted [] w front (suc n) count h l p = end_accepted front n count h p
-from_accepted (c ∷ cs) (w, ws) front (suc n) count h l (o, p) =
+from_accepted [] w front zero counts h l p = absurd (not-suc-le-zero l)
+from_accepted (c ∷ cs) w front zero counts h l p = absurd (not-suc-le-zero l)
+from_accepted [] w front (suc n) counts h l p = end_accepted front n counts h p
+from_accepted (c ∷ cs) (w, ws) front (suc n) counts h l (o, p) =
     let next : length (front ++ file_bytes_of c) ≡ length front + width_of c = length-append front (file_bytes_of c) ∙ ap (λ (k : ℕ). length front + k) (file_bytes_width c) in
-    ap (λ (j : List ℕ). listed_by tests_at (suc n) j (length front) count h) (split front c cs)
-    ∙ goes_accepted front c cs w n count h o (entries_from (length front + width_of c) (through h (given c)) cs)
-    (from_accepted cs ws (front ++ file_bytes_of c) n (count + length (given c)) (through h (given c)) (omega arith) p ∙ ap (λ (k : ℕ). accepted (entries_from k (through h (given c)) cs)) next)
+    ap (λ (j : List ℕ). listed_by tests_at (suc n) j (length front) counts h) (split front c cs)
+    ∙ goes_accepted front c cs w n counts h o (entries_from (length front + width_of c) (through h (given c)) cs)
+    (from_accepted cs ws (front ++ file_bytes_of c) n (counted counts c) (through h (given c)) (omega arith) p ∙ ap (λ (k : ℕ). accepted (entries_from k (through h (given c)) cs)) next)
 
-from_passing : (cs : List FileCommand) → AllWritable cs → (front : List ℕ) (n count : ℕ) (h : Context) (es : List Entry) → listed_by tests_at n (front ++ rest_of cs) (length front) count h ≡ accepted es → Passes count h cs
+from_passing : (cs : List FileCommand) → AllWritable cs → (front : List ℕ) (n : ℕ) (counts : Counts) (h : Context) (es : List Entry) → listed_by tests_at n (front ++ rest_of cs) (length front) counts h ≡ accepted es → Passes counts h cs
 unfolding all_bytes listed_by
-from_passing [] w front zero count h es e = absurd (not_both e)
-from_passing (c ∷ cs) w front zero count h es e = absurd (not_both e)
-from_passing [] w front (suc n) count h es e = end_passing front n count h es e
-from_passing (c ∷ cs) (w, ws) front (suc n) count h es e =
-    let p = goes_passing front c cs w n count h es (ap (λ (j : List ℕ). listed_by tests_at (suc n) j (length front) count h) (sym (split front c cs)) ∙ e) in
-    (p.own, from_passing cs ws (front ++ file_bytes_of c) n (count + length (given c)) (through h (given c)) p.later p.rest)
+from_passing [] w front zero counts h es e = absurd (not_both e)
+from_passing (c ∷ cs) w front zero counts h es e = absurd (not_both e)
+from_passing [] w front (suc n) counts h es e = end_passing front n counts h es e
+from_passing (c ∷ cs) (w, ws) front (suc n) counts h es e =
+    let p = goes_passing front c cs w n counts h es (ap (λ (j : List ℕ). listed_by tests_at (suc n) j (length front) counts h) (sym (split front c cs)) ∙ e) in
+    (p.own, from_passing cs ws (front ++ file_bytes_of c) n (counted counts c) (through h (given c)) p.later p.rest)
 
 module _ (cs : List FileCommand) (w : AllWritable cs) where
   file_is : file_of cs ≡ rest_of cs
   file_is = all_and_end cs ∙ ap (λ (l : List ℕ). all_bytes cs ++ l) (sym (append-nil (bytes_of finish)))
 
   -- where they pass, they are the commands of the file
-  pub file_accepted : Passes 0 nothing cs → listed (file_of cs) ≡ accepted (entries_from 0 nothing cs)
+  pub file_accepted : Passes first_counts nothing cs → listed (file_of cs) ≡ accepted (entries_from 0 nothing cs)
   unfolding listed
   file_accepted p =
-      ap (λ (j : List ℕ). listed_by tests_at 4097 j 0 0 nothing) file_is
-      ∙ from_accepted cs w [] 4097 0 nothing (omega (arith, passes_few 0 nothing cs (omega arith) p)) p
+      ap (λ (j : List ℕ). listed_by tests_at 4097 j 0 first_counts nothing) file_is
+      ∙ from_accepted cs w [] 4097 first_counts nothing (omega (arith, passes_few first_counts nothing cs (omega arith) p)) p
 
   -- and only there is it accepted
-  pub file_passes : (es : List Entry) → listed (file_of cs) ≡ accepted es → Passes 0 nothing cs
+  pub file_passes : (es : List Entry) → listed (file_of cs) ≡ accepted es → Passes first_counts nothing cs
   unfolding listed
-  file_passes es e = from_passing cs w [] 4097 0 nothing es (ap (λ (j : List ℕ). listed_by tests_at 4097 j 0 0 nothing) (sym file_is) ∙ e)
+  file_passes es e = from_passing cs w [] 4097 first_counts nothing es (ap (λ (j : List ℕ). listed_by tests_at 4097 j 0 first_counts nothing) (sym file_is) ∙ e)
 
 -- ---- the rows, word 0 aside
 

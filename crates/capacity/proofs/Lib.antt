@@ -19,7 +19,9 @@ pub mod StoreyWords
 pub mod Governs
 pub mod WrittenAgain
 mod FileListed
+mod CutFile
 pub mod Singly
+pub mod Buildings
 pub mod BlockHolds
 pub mod Edges
 pub mod OtherCommands

@@ -41,13 +41,13 @@ abbrev AllNarrow : List (List ℤ) → Type 0
 AllNarrow [] = Unit {0}
 AllNarrow (row ∷ rows) = (any_too_wide widths row ≡ false) × AllNarrow rows
 
-words_narrow : (offset byte : ℕ) (r : Row) → offset ≤ 237512 → byte ≤ 12 → Sized r → any_too_wide widths (words offset byte r) ≡ false
+words_narrow : (offset byte : ℕ) (r : Row) → offset ≤ 237512 → byte ≤ 13 → Sized r → any_too_wide widths (words offset byte r) ≡ false
 words_narrow offset byte r o b s =
     row_narrow offset byte r.word2 r.word3 r.word4 r.word5 r.word6 r.verdict (omega arith) (omega arith) s.word2 s.word3 s.word4 s.word5
     s.word6 (omega (arith, verdict_size r.verdict s.verdict_least s.verdict_greatest))
 
 -- the rows of one command, before others
-own_narrow : (offset byte : ℕ) → offset ≤ 237512 → byte ≤ 12 → (rows : List Row) (others : List (List ℤ)) → AllSized rows → AllNarrow others →
+own_narrow : (offset byte : ℕ) → offset ≤ 237512 → byte ≤ 13 → (rows : List Row) (others : List (List ℤ)) → AllSized rows → AllNarrow others →
     AllNarrow (map (words offset byte) rows ++ others)
 own_narrow offset byte o b [] others s n = n
 own_narrow offset byte o b (r ∷ rs) others s n = (words_narrow offset byte r o b s.0, own_narrow offset byte o b rs others s.1 n)

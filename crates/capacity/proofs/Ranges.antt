@@ -3,7 +3,7 @@ use mathlib.Core.Path.{◌≡◌, refl, sym, ◌∙◌, subst}
 use mathlib.Core.Bool.{true}
 use mathlib.Core.List.{List, [], ◌∷◌, ◌++◌}
 use Rattle.std.specs.Prelude.{None, Some}
-use Prim.Native.Nat.{ℕ, zero, suc, ◌+◌}
+use Prim.Native.Nat.{ℕ, zero, suc}
 use native.Mathlib.Decide.{ℕ_discrete}
 use borrow.Author.Tests.{eq-eqb, ne_eqb}
 use Rattle.coefficient.specs.declared.Settings.{Settings}
@@ -11,7 +11,7 @@ use Rattle.members.specs.declared.Joint.{Joint}
 use Rattle.members.specs.Hingeless.{JointRange}
 use Rattle.walls.specs.declared.WallBase.{WallBase}
 use Rattle.format.specs.declared.Command.{Command}
-use Rattle.format.specs.declared.Command.TheVariants.{Settings as settings, Joint as joint, WallBase as wall_base, Soil as soil}
+use Rattle.format.specs.declared.Command.TheVariants.{Settings as settings, Joint as joint, WallBase as wall_base, Soil as soil, Building as building}
 use Rattle.format.specs.Commands.{in_range}
 use Rattle.format.specs.Types.{OfTypes}
 use Rattle.layout.proofs.Numbers.{Bytes}
@@ -20,8 +20,10 @@ use Rattle.context.specs.Running.{SettingsRange}
 use Rattle.context.proofs.Ranges.{settings_range, joint_range}
 use Rattle.context.specs.Context.{Context, nothing, next, with_joint}
 use Rattle.job.specs.Faults.{tests_at, after_command}
+use Rattle.job.specs.declared.Counts.{Counts}
+use Rattle.job.specs.Counts.{first_counts}
 use Rattle.job.specs.Placed.{Placed, context_after, place_each, Entry, entry_at, commands_in, placed_in, placed_all, Listing, Job, refused, accepted, before, listed_by, listed, placed_of, placed}
-use Rattle.job.proofs.PlacedCases.{weight_at, context_behind, rest_after, by_cases}
+use Rattle.job.proofs.PlacedCases.{counts_behind, context_behind, rest_after, by_cases}
 use Rattle.job.proofs.Faultless.{Chained, passed}
 
 -- what holds is in range
@@ -58,6 +60,7 @@ next_range h (joint id j) r i = record { settings = r.settings; joints = λ k x 
 next_range h (wall_base b) r i =
     record { settings = r.settings; joints = r.joints; wall = λ c e. subst (λ (x : WallBase). in_range (wall_base x) ≡ true) (same_some b c e) i }
 next_range h (soil s) r i = record { settings = r.settings; joints = r.joints; wall = r.wall }
+next_range h building r i = nothing_range
 next_range h _ r i = r
 
 -- ---- every placed command
@@ -95,15 +98,15 @@ good_given h r ((at, c) ∷ cs) (t, ts) (e, w, k) =
     let g = good_given (next h c) (next_range h c r w.range) cs ts k in
     ((record { range = w.range; types = t; context = r }, g.0), g.1)
 
-good_from : (n : ℕ) (job : List ℕ) → Bytes job → (offset count : ℕ) (h : Context) → ContextRange h → GoodListing (listed_by tests_at n job offset count h)
+good_from : (n : ℕ) (job : List ℕ) → Bytes job → (offset : ℕ) (counts : Counts) (h : Context) → ContextRange h → GoodListing (listed_by tests_at n job offset counts h)
 unfolding listed_by
-good_from zero job b offset count h r = tt
-good_from (suc n) job b offset count h r =
-    by_cases tests_at n job offset count h GoodListing (λ l. tt) (λ l k e. tt) (λ l e z m. tt) (λ l e z m. tt)
+good_from zero job b offset counts h r = tt
+good_from (suc n) job b offset counts h r =
+    by_cases tests_at n job offset counts h GoodListing (λ l. tt) (λ l k e. tt) (λ l e z m. tt) (λ l e z m. tt)
     (λ l e z.
-    let g = good_given h r (commands_in (entry_at job offset h)) (types_given job offset b) ((passed job offset count h e).chained z) in
-    good_in_front (entry_at job offset h) (rest_after tests_at n job offset count h) g.0
-    (good_from n job b (after_command job offset) (count + weight_at job offset) (context_behind job offset h) g.1))
+    let g = good_given h r (commands_in (entry_at job offset h)) (types_given job offset b) ((passed job offset counts h e).chained z) in
+    good_in_front (entry_at job offset h) (rest_after tests_at n job offset counts h) g.0
+    (good_from n job b (after_command job offset) (counts_behind job offset counts) (context_behind job offset h) g.1))
 
 good_placed : (j : Listing) → GoodListing j → GoodJob (placed_of j)
 good_placed (refused number offset) g = tt
@@ -111,4 +114,4 @@ good_placed (accepted es) g = g
 
 pub all_good : (job : List ℕ) → Bytes job → GoodJob (placed job)
 unfolding placed listed
-all_good job b = good_placed (listed job) (good_from 4097 job b 0 0 nothing nothing_range)
+all_good job b = good_placed (listed job) (good_from 4097 job b 0 first_counts nothing nothing_range)

@@ -21,7 +21,7 @@ use Rattle.walls.proofs.Sizes.{base_sized, storey_sized}
 use Rattle.footing.specs.Rows.{footing_row}
 use Rattle.footing.proofs.Sizes.{footing_sized}
 use Rattle.format.specs.declared.Command.{Command}
-use Rattle.format.specs.declared.Command.TheVariants.{Finish as finish, Settings as settings, Joint as joint, Column as column, Beam as beam, Hingeless as hingeless, WallBase as wall_base, Storey as storey, Soil as soil, Footing as footing, Detail as detail, Basement as basement}
+use Rattle.format.specs.declared.Command.TheVariants.{Finish as finish, Settings as settings, Joint as joint, Column as column, Beam as beam, Hingeless as hingeless, WallBase as wall_base, Storey as storey, Soil as soil, Footing as footing, Detail as detail, Basement as basement, Building as building}
 use Rattle.format.specs.Commands.{in_range}
 use Rattle.format.specs.Types.{OfTypes}
 use Rattle.format.proofs.CommandRanges.{basement_in_range}
@@ -57,6 +57,7 @@ module _ (h : Context) (s : Settings) (range : ContextRange h) (r : SettingsRang
       of_wall None w = tt
       of_wall (Some b) w = (storey_sized s.behaviour b x (w b refl) (storey_range x i), tt)
   with_settings_lem (soil x) i f = tt
+  with_settings_lem building i f = tt
   with_settings_lem (footing x) i f = on_ground h.ground
     where
       on_ground : (o : Option Ground) → AllSized (when_given o (λ g. footing_row s x g.soil g.sensitive Plus ∷ footing_row s x g.soil g.sensitive Minus ∷ []))

@@ -23,7 +23,7 @@ use Rattle.walls.proofs.Rows.{base_holds, storey_holds}
 use Rattle.footing.specs.Rows.{footing_row}
 use Rattle.footing.proofs.Held.{footing_holds}
 use Rattle.format.specs.declared.Command.{Command}
-use Rattle.format.specs.declared.Command.TheVariants.{Finish as finish, Settings as settings, Joint as joint, Column as column, Beam as beam, Hingeless as hingeless, WallBase as wall_base, Storey as storey, Soil as soil, Footing as footing, Detail as detail, Basement as basement}
+use Rattle.format.specs.declared.Command.TheVariants.{Finish as finish, Settings as settings, Joint as joint, Column as column, Beam as beam, Hingeless as hingeless, WallBase as wall_base, Storey as storey, Soil as soil, Footing as footing, Detail as detail, Basement as basement, Building as building}
 use Rattle.format.specs.Commands.{in_range}
 use Rattle.context.specs.Running.{SettingsRange}
 use Rattle.context.proofs.Ranges.{column_range, beam_range, hingeless_range, storey_range, footing_range, detail_range}
@@ -66,6 +66,7 @@ module _ (h : Context) (s : Settings) (range : ContextRange h) (r : SettingsRang
       of_wall None = tt
       of_wall (Some b) = (storey_holds s.behaviour b x (storey_range x i), tt)
   with_settings_lem (soil x) i f = tt
+  with_settings_lem building i f = tt
   with_settings_lem (footing x) i f = on_ground h.ground
     where
       on_ground : (o : Option Ground) →

@@ -15,6 +15,7 @@ use Rattle.blocks.specs.FileCommands.{FileCommand, block, given, singly}
 use Rattle.blocks.proofs.Sets.{each_in_range}
 use Rattle.writing.specs.Files.{AllWritable}
 use Rattle.context.specs.Context.{nothing}
+use Rattle.job.specs.Counts.{first_counts}
 use Rattle.job.specs.Placed.{Placed, Entry, placed_all, accepted, all_rows}
 use Rattle.job.proofs.PlacedCases.{listed_of, placed_of_lem}
 use Rattle.job.proofs.Passing.{Passes, passes_singly, passes_block}
@@ -39,7 +40,7 @@ same_given [] ss ds = sym (given_singly ss ds)
 same_given (c ∷ cs) ss ds = ap (λ (l : List Command). given c ++ l) (same_given cs ss ds)
 
 -- of two files that give the same commands: where the second passes whenever the first does, it is accepted with the rows of the first
-accepted_too : (xs ys : List FileCommand) → AllWritable xs → AllWritable ys → (Passes 0 nothing xs → Passes 0 nothing ys) → given_all xs ≡ given_all ys → (rows : List (List ℤ)) → Accepts (file_of xs) rows → Accepts (file_of ys) rows
+accepted_too : (xs ys : List FileCommand) → AllWritable xs → AllWritable ys → (Passes first_counts nothing xs → Passes first_counts nothing ys) → given_all xs ≡ given_all ys → (rows : List (List ℤ)) → Accepts (file_of xs) rows → Accepts (file_of ys) rows
 accepted_too xs ys v w f g rows a =
     let (es, l, q) = listed_of (file_of xs) a.commands a.is_accepted in
     let p = file_passes xs v es l in
@@ -58,8 +59,8 @@ blocks_stand cs ss ds v (b, u) w =
     let with-block = writable_both cs (block ss ∷ ds) v (b, w) in
     let with-storeys = writable_both cs (singly ss ++ ds) v (writable_both (singly ss) ds (singly_writable ss range) w) in
     record {
-      singly_too = accepted_too (cs ++ block ss ∷ ds) (cs ++ (singly ss ++ ds)) with-block with-storeys (passes_singly ss ds 0 nothing cs) (same_given cs ss ds);
-      block_too = accepted_too (cs ++ (singly ss ++ ds)) (cs ++ block ss ∷ ds) with-storeys with-block (passes_block ss ds many 0 nothing cs (omega arith)) (sym (same_given cs ss ds));
+      singly_too = accepted_too (cs ++ block ss ∷ ds) (cs ++ (singly ss ++ ds)) with-block with-storeys (passes_singly ss ds first_counts nothing cs) (same_given cs ss ds);
+      block_too = accepted_too (cs ++ (singly ss ++ ds)) (cs ++ block ss ∷ ds) with-storeys with-block (passes_block ss ds many first_counts nothing cs (omega arith)) (sym (same_given cs ss ds));
     }
 
 -- a block of one is a storey

@@ -8,13 +8,13 @@ use lib.IntN.{ℤ}
 use lib.ListN.{length, drop, length-append}
 use Rattle.format.specs.Commands.{byte_of}
 use Rattle.layout.proofs.Numbers.{Bytes}
-use Rattle.context.specs.Running.{room_for}
+use Rattle.context.specs.Running.{room_for, no_joints}
 use Rattle.rows.specs.Rows.{rows_of}
 use Rattle.rows.specs.Writing.{joined}
 use Rattle.rows.proofs.Memory.{Eights, stored_all_fits}
 use Rattle.rows.proofs.Laws.{words_eight, eights_both}
 use Rattle.job.specs.Placed.{Placed, Entry, placed_all, Listing, accepted, listed, placed, rows_at, all_rows}
-use Rattle.job.specs.Walking.{Final, first_place, no_joints, walk_from}
+use Rattle.job.specs.Walking.{Final, first_place, walk_from}
 use Rattle.job.proofs.PlacedCases.{listed_of}
 use Rattle.job.proofs.Simulation.{Matches}
 use Rattle.job.proofs.Begin.{begin_matches}

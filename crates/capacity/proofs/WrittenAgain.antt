@@ -19,9 +19,11 @@ use Rattle.blocks.proofs.FileCommands.{byte_read}
 use Rattle.writing.specs.Bytes.{bytes_of, file_bytes_of}
 use Rattle.writing.specs.Answers.{file_in_range, wrote, write_file_of, file_bytes_after, write_of, bytes_after}
 use Rattle.writing.specs.Files.{AllWritable, all_bytes, written_in_turn, with_offsets, read_from}
-use Rattle.writing.proofs.Answered.{file_bytes_width, end_in_range, answer_written, slice_written}
+use Rattle.format.proofs.RangeTest.{end_in_range}
+use Rattle.writing.proofs.Answered.{file_bytes_width, answer_written, slice_written}
 use Rattle.writing.proofs.BlockReadBack.{types_read, written_again}
 use Rattle.writing.proofs.FileReadBack.{end_byte, all_in_range_lem, written_bytes, commands_read, all_and_end}
+use Rattle.job.specs.declared.Counts.{Counts}
 use Rattle.job.specs.Placed.{context_after, Entry, placed_all, accepted, listed}
 use Rattle.job.specs.Earlier.{widths_of}
 use Rattle.job.proofs.Faultless.{passed, known_at}
@@ -43,29 +45,29 @@ widths_more [] x = omega arith
 widths_more (y ∷ earlier) x = omega (arith, widths_more earlier x)
 
 -- what passes the tests is in range
-passes_range : (count : ℕ) (h : Context) (c : FileCommand) → PassesAt count h c → file_in_range c ≡ true
-passes_range count h (one c) p = p.range
-passes_range count h (block ss) p = rw p.count_in_range_lem p.range
+passes_range : (counts : Counts) (h : Context) (c : FileCommand) → PassesAt counts h c → file_in_range c ≡ true
+passes_range counts h (one c) p = p.range
+passes_range counts h (block ss) p = rw p.count_in_range_lem p.range
 
 -- ---- a command that stands in a job
 
 module _ (job : List ℕ) {offset : ℕ} {h : Context} {x : Entry} (s : Stands job offset h x) where
   same_byte : file_byte_of x.given ≡ byte_at job offset
-  same_byte = ap file_byte_of s.read ∙ byte_read job offset (known_at job offset s.count h s.no_fault)
+  same_byte = ap file_byte_of s.read ∙ byte_read job offset (known_at job offset s.counts h s.no_fault)
 
   same_width : width_at job offset ≡ width_of x.given
-  same_width = sym (ap width_of s.read ∙ (passed job offset s.count h s.no_fault).width)
+  same_width = sym (ap width_of s.read ∙ (passed job offset s.counts h s.no_fault).width)
 
   whole : offset + width_at job offset ≤ length job
-  whole = (passed job offset s.count h s.no_fault).whole
+  whole = (passed job offset s.counts h s.no_fault).whole
 
   other : file_byte_of x.given ≡ 0 → ⊥
   other z = s.other (sym same_byte ∙ z)
 
   ranged : file_in_range x.given ≡ true
   ranged =
-      passes_range s.count h x.given
-      (tests_passed job offset s.count h x.given (record { byte = sym same_byte; read = sym s.read; width = same_width; whole = whole }) other s.no_fault)
+      passes_range s.counts h x.given
+      (tests_passed job offset s.counts h x.given (record { byte = sym same_byte; read = sym s.read; width = same_width; whole = whole }) other s.no_fault)
 
 module _ (job : List ℕ) (es : List Entry) (e : listed job ≡ accepted es) where
   stands : (earlier : List Entry) (x : Entry) (later : List Entry) → es ≡ earlier ++ x ∷ later → Stands job (widths_of earlier) (context_after nothing (placed_all earlier)) x
@@ -105,7 +107,7 @@ module _ (job : List ℕ) (es : List Entry) (e : listed job ≡ accepted es) whe
     pub command_again : (earlier : List Entry) (x : Entry) (later : List Entry) → es ≡ earlier ++ x ∷ later → file_bytes_of x.given ≡ take (width_of x.given) (drop x.offset job)
     command_again earlier x later q =
         let s = stands earlier x later q in
-        rw (s.place, ← same_width job s) (ap file_bytes_of s.read ∙ written_again job b (widths_of earlier) (whole job s) (known_at job (widths_of earlier) s.count _ s.no_fault))
+        rw (s.place, ← same_width job s) (ap file_bytes_of s.read ∙ written_again job b (widths_of earlier) (whole job s) (known_at job (widths_of earlier) s.counts _ s.no_fault))
 
     -- the end too
     pub end_again : bytes_of finish ≡ drop (length job - 1) job

@@ -3,7 +3,9 @@
 -- values, the reported strengths and the verdict are read off the words that `run` wrote; the exact values are made from the
 -- job's bytes alone. What `Hold` claims of a row is in the crate `claims`: no check passes whose exact demand exceeds its exact
 -- strength, no reported demand lies below the exact one, the excess stays under the amounts, whatever is clear by the amounts
--- passes, and each of the bits 1, 2, 4, 8, 32 is clear exactly when all its checks pass.
+-- passes, and each of the bits 1, 2, 4, 8, 32 is clear exactly when all its checks pass. 02, No. 10: "The error bounds use the settings of
+-- the row's own building": they use what holds at the command (`context` of a placed command), of which a 0D leaves nothing (`next`;
+-- `own_building`, job/proofs/AcceptedLaws.antt).
 use Rattle.std.specs.Prelude.{◌≡◌, List, [], ◌∷◌, ℕ, ◌+◌, ◌*◌, ℤ, pos, length, get_or, ◌≤ℤ◌}
 use Rattle.coefficient.specs.declared.Settings.{Settings}
 use Rattle.claims.specs.declared.Row.{Row}
@@ -20,7 +22,7 @@ use Rattle.actions.specs.declared.Sign.TheVariants.{Plus, Minus}
 use Rattle.footing.specs.declared.Footing.{Footing}
 use Rattle.footing.specs.Claimed.{footing_claims}
 use Rattle.format.specs.declared.Command.{Command}
-use Rattle.format.specs.declared.Command.TheVariants.{Finish as finish, Settings as settings, Joint as joint, Column as column, Beam as beam, Hingeless as hingeless, WallBase as wall_base, Storey as storey, Soil as soil, Footing as footing, Detail as detail, Basement as basement}
+use Rattle.format.specs.declared.Command.TheVariants.{Finish as finish, Settings as settings, Joint as joint, Column as column, Beam as beam, Hingeless as hingeless, WallBase as wall_base, Storey as storey, Soil as soil, Footing as footing, Detail as detail, Basement as basement, Building as building}
 use Rattle.context.specs.declared.Ground.{Ground}
 use Rattle.context.specs.Context.{Context, when_given}
 use Rattle.rows.specs.Nearest.{nearest_coefficient}
@@ -49,6 +51,7 @@ claims_with h s (footing f) = when_given h.ground (λ g. footing_claim s f g Plu
 claims_with h s (detail d) = (λ r. Hold (detail_claims d r)) ∷ []
 claims_with h s (basement id m) =
     when_given (nearest_coefficient h s id m.place) (λ a. (λ r. Hold (basement_shear_claims a m r)) ∷ (λ r. Hold (basement_moment_claims a m r)) ∷ [])
+claims_with h s building = []
 
 unfoldable pub claims_of : Placed → List Claim
 unfolding claims_with

@@ -20,15 +20,17 @@
  *    1  command cut short, at its start; no end, at the job's length
  *    2  unknown command
  *    3  bytes after end, at the first
- *    4  first command not settings, or settings again
+ *    4  the first command of a building not settings, or settings again
  *    5  operand out of range, in a job and from the eak_write calls; from eak_write_block also too few words; from eak_take_down kind
  *       or value out of range
- *    6  joint id not yet given, storey or block without wall base, basement member without its joint or wall base, footing without soil
+ *    6  joint id not yet given, storey or block without wall base, basement member without its joint or wall base, footing without soil,
+ *       each in the same building
  *    7  no longer given (before version 1.1.0: joint id given twice; a joint given again now replaces the earlier one)
- *    8  a 4,097th command, end not counted; a block that would pass 4,096, as it counts as many commands as it has sets
+ *    8  a 4,097th command of the file, end not counted; a block that would pass 4,096, as it counts as many commands as it has sets
  *    9  too few words for the rows, from eak_run and eak_page
  *   11  too few bytes: for the command, from the eak_write calls; for the page, from eak_page (10 is the programs': input too long)
  *   12  a value too wide for its column, from eak_page; no row that eak_run writes has one
+ *   13  a 17th building, at the 0D that begins it
  */
 #ifndef EAK_CAPACITY_H
 #define EAK_CAPACITY_H
@@ -41,9 +43,11 @@
 extern "C" {
 #endif
 
-/* The version that this header belongs to, 4.1.0: 10,000 times the major number, 100 times the minor one, and the patch. With the major
+/* The version that this header belongs to, 4.2.0: 10,000 times the major number, 100 times the minor one, and the patch. With the major
  * number a call is changed or removed, or words of the rows of accepted jobs change; with the minor one a call is added, or jobs are
  * accepted that were refused. eak_version answers the library's.
+ * From version 4.2.0 on, a job may have up to 16 buildings, each begun by command 0D, which eak_write_building writes; before, this byte
+ * was refusal 2. Other jobs are as they were, and a program written for 4.1.0 need not be changed.
  * From version 4.1.0 on, a job may have basement members, command 0C, which eak_write_basement writes; before, this byte was refusal 2.
  * Other jobs are as they were, and a program written for 4.0.0 need not be changed. EAK_MOST_ROWS is 8,189; it was 8,188, so a program
  * that was compiled with the header of 4.0.0 and lends the words of 8,188 rows is refused with 9 where a job has a row more.
@@ -56,7 +60,7 @@ extern "C" {
  *      write beyond the struct that the program has.
  * A program that totals fewer rows than a job has, or rows of its own making, counts them itself: a row failed where its word 7 is not
  * 0, and its checks failed are the one bits of that word. Jobs, rows and the refusals of a job are as they were. */
-#define EAK_VERSION 40100
+#define EAK_VERSION 40200
 
 /* The words of a row. Word 0 is the command's offset in the job, word 1 its byte, word 7 the verdict, 0 for passed; docs/FORMAT.md has
  * the others. A storey of a block has the offset of its set's first byte in word 0 and 7, the byte of a storey, in word 1. A footing and
@@ -294,7 +298,7 @@ struct eak_soil_answer eak_take_down(uint8_t kind, float value);
  *    5  a value is out of range; where each is within its range, J is above J0, the kind does not allow the soil value, or the id of a
  *       basement member under a wall is not 0
  *   11  `room` is less than the command's bytes; exactly as many suffice
- * in this order, 5 whatever the room is; in a refusal every byte stays as it was. What depends on the commands before it (4, 6, 8) is
+ * in this order, 5 whatever the room is; in a refusal every byte stays as it was. What depends on the commands before it (4, 6, 8, 13) is
  * not tried: eak_size of the finished job does that. Each command is written where the last one ended, and the end is the last:
  *    answer = eak_write_column(column, job + n, room - n);
  *    n += answer.bytes;
@@ -310,6 +314,7 @@ struct eak_write_answer eak_write_soil(struct eak_soil values, uint8_t *bytes, s
 struct eak_write_answer eak_write_footing(struct eak_footing values, uint8_t *bytes, size_t room);
 struct eak_write_answer eak_write_detail(struct eak_detail values, uint8_t *bytes, size_t room);
 struct eak_write_answer eak_write_basement(struct eak_basement values, uint8_t *bytes, size_t room);
+struct eak_write_answer eak_write_building(uint8_t *bytes, size_t room); /* another building: its settings are the next command */
 struct eak_write_answer eak_write_end(uint8_t *bytes, size_t room);
 
 /* Writes a block of `count` storeys like the calls above. Their values stand in `sets`, a stretch of `words` words: EAK_SET_WORDS a

@@ -220,7 +220,7 @@ pub extern "C" fn eak_take_down(kind: u8, value: f32) -> SoilAnswer
 // The version of these calls: 10,000 times the major number, 100 times the minor one, and the patch; the header's EAK_VERSION.
 #[unsafe(no_mangle)]
 pub extern "C" fn eak_version() -> u32
-    ensures { result ≡ 40100 }
+    ensures { result ≡ 40200 }
 {
-    40100
+    40200
 }

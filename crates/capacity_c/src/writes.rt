@@ -1,13 +1,13 @@
 // The calls that write a job's commands, for programs in other languages: the values of a command as a struct, its bytes into the lent
 // slice. None has a `requires`, and each contract is that of `writing::write` for the command of the values, or that of
-// `writing::write_block`. 02, No. 2, No. 7 and No. 9.
+// `writing::write_block`. 02, No. 2, No. 7, No. 9 and No. 10.
 ghost use Rattle.std.specs.Prelude.{◌≡◌, length};
 ghost use Rattle.std.specs.Float.{binary32};
 ghost use Rattle.std.specs.Float.Ieee.{to_bits};
 ghost use Rattle.members.specs.declared.Joint.{Joint};
 ghost use Rattle.members.specs.declared.Hingeless.{Hingeless};
 ghost use Rattle.basement.specs.declared.Basement.{Basement};
-ghost use Rattle.format.specs.declared.Command.TheVariants.{Finish as finish, Settings as settings, Column as column, Beam as beam, WallBase as wall_base, Storey as storey, Soil as soil, Footing as footing, Detail as detail};
+ghost use Rattle.format.specs.declared.Command.TheVariants.{Finish as finish, Settings as settings, Column as column, Beam as beam, WallBase as wall_base, Storey as storey, Soil as soil, Footing as footing, Detail as detail, Building as building};
 ghost use Rattle.writing.specs.Answers.{answer_of, refused_with, write_of, bytes_after, write_given, bytes_given};
 ghost use Rattle.writing.specs.BlockGiven.{write_block_of, block_bytes_after};
 ghost use Rattle.capacity_c.specs.Commands.{write_answer, joint_of, hingeless_of, basement_of, settings_command, joint_command, column_command, beam_command, hingeless_command, wall_base_command, storey_command, soil_command, footing_command, detail_command, basement_command};
@@ -18,7 +18,7 @@ use footing::Footing;
 use format::SoilGiven;
 use members::{Beam, Column, Detail, Hingeless, Joint};
 use walls::{Storey, WallBase};
-use writing::{End, WriteError};
+use writing::{Building, End, WriteError};
 
 // The answer of the calls that write.
 #[repr(C)]
@@ -477,6 +477,15 @@ pub extern "C" fn eak_write_basement(values: BasementOperands, bytes: &mut [u8])
         return WriteAnswer::from(Err(WriteError::OutOfRange));
     };
     WriteAnswer::from(writing::write_values((joint, Basement::from(values)), bytes))
+}
+
+// 0D another building: its settings are the next command.
+#[unsafe(no_mangle)]
+pub extern "C" fn eak_write_building(bytes: &mut [u8]) -> WriteAnswer
+    ensures answer { result ≡ write_answer (write_of building (length bytes.old)) }
+    ensures bytes { bytes.new ≡ bytes_after building bytes.old }
+{
+    WriteAnswer::from(writing::write_values(Building, bytes))
 }
 
 // 00 end, after the last command of a job.

@@ -1,9 +1,9 @@
--- A sound state and a sound table of joints stay sound after a command, and the table keeps its length. Assumes nothing.
+-- A sound state and a sound table of joints stay sound after a command, and the table keeps its places. Assumes nothing.
 use mathlib.Core.Bool.{Bool, true, false}
 use mathlib.Core.List.{[], ◌∷◌}
-use mathlib.Core.Path.{◌≡◌, refl}
+use mathlib.Core.Path.{◌≡◌, refl, ◌∙◌}
 use Prim.Native.Nat.{ℕ, zero, suc}
-use lib.ListN.{length, set, length-set}
+use lib.ListN.{length, set, replicate, length-set, length-replicate}
 use Rattle.std.specs.Prelude.{Option, None, Some, IfSome}
 use Rattle.coefficient.specs.declared.Settings.{Settings}
 use Rattle.members.specs.declared.Joint.{Joint}
@@ -12,10 +12,10 @@ use Rattle.walls.specs.declared.WallBase.{WallBase}
 use Rattle.walls.specs.Running.{WallRange}
 use Rattle.walls.proofs.Running.{wall_of_range}
 use Rattle.format.specs.declared.Command.{Command}
-use Rattle.format.specs.declared.Command.TheVariants.{Settings as settings, Joint as joint, WallBase as wall_base, Soil as soil}
+use Rattle.format.specs.declared.Command.TheVariants.{Settings as settings, Joint as joint, WallBase as wall_base, Soil as soil, Building as building}
 use Rattle.format.specs.Commands.{in_range}
 use Rattle.context.specs.declared.State.{State}
-use Rattle.context.specs.Running.{JointTable, joint_at, next_joints, start_state, running, wall_kept, next_state, SettingsRange, SoundState, SoundJoints}
+use Rattle.context.specs.Running.{JointTable, joint_at, no_joints, next_joints, start_state, running, wall_kept, next_state, SettingsRange, SoundState, SoundJoints}
 use Rattle.context.proofs.Ranges.{settings_range, joint_range, wall_base_range}
 
 -- ---- the state
@@ -34,14 +34,33 @@ unfolding next_state
 next_sound room t (settings x) s h = record { settings = settings_range x h; wall = s.wall }
 next_sound room t (wall_base b) s h = record { settings = s.settings; wall = kept_range t.settings room b s.settings h }
 next_sound room t (soil x) s h = record { settings = s.settings; wall = s.wall }
+next_sound room t building s h = start_sound
 next_sound room t _ s h = s
 
 -- ---- the joints' table
 
-pub joints_length : (joints : JointTable) (c : Command) → length (next_joints joints c) ≡ length joints
+none_there : (n id : ℕ) → joint_at (replicate n None) id ≡ None
+none_there zero id = refl
+none_there (suc n) zero = refl
+none_there (suc n) (suc id) = none_there n id
+
+-- at the start of a building there is none, at 256 places
+pub no_joint_there : (id : ℕ) → joint_at no_joints id ≡ None
+no_joint_there id = none_there 256 id
+
+pub no_joints_length : length no_joints ≡ 256
+no_joints_length = length-replicate {A = Option Joint} 256 None
+
+pub no_joints_sound : SoundJoints no_joints
+no_joints_sound id = rw (no_joint_there id) tt
+
+pub joints_length : (joints : JointTable) (c : Command) → length joints ≡ 256 → length (next_joints joints c) ≡ 256
 unfolding next_joints
-joints_length joints (joint id j) = simp length-set
-joints_length joints _ = refl
+joints_length joints (joint id j) e =
+    let k : length (set joints id (Some j)) ≡ length joints = simp length-set in
+    k ∙ e
+joints_length joints building e = no_joints_length
+joints_length joints _ e = e
 
 -- a joint that is given is in range
 pub joint_given : (joints : JointTable) (id : ℕ) {j : Joint} → SoundJoints joints → joint_at joints id ≡ Some j → JointRange j
@@ -58,4 +77,5 @@ set_sound (x ∷ xs) (suc id) j r s (suc k) = set_sound xs id j r (λ i. s (suc 
 pub joints_sound : (joints : JointTable) (c : Command) → SoundJoints joints → in_range c ≡ true → SoundJoints (next_joints joints c)
 unfolding next_joints
 joints_sound joints (joint id j) s h = set_sound joints id j (joint_range id j h) s
+joints_sound joints building s h = no_joints_sound
 joints_sound joints _ s h = s

@@ -13,13 +13,13 @@ use Rattle.coefficient.specs.declared.Settings.{Settings}
 use Rattle.members.specs.declared.Joint.{Joint}
 use Rattle.walls.specs.declared.WallBase.{WallBase}
 use Rattle.format.specs.declared.Command.{Command}
-use Rattle.format.specs.declared.Command.TheVariants.{Finish as finish, Settings as settings, Joint as joint, Hingeless as hingeless, WallBase as wall_base, Storey as storey, Soil as soil, Footing as footing, Basement as basement}
+use Rattle.format.specs.declared.Command.TheVariants.{Finish as finish, Settings as settings, Joint as joint, Hingeless as hingeless, WallBase as wall_base, Storey as storey, Soil as soil, Footing as footing, Basement as basement, Building as building}
 use Rattle.context.specs.declared.LatestWall.{LatestWall}
 use Rattle.context.specs.declared.LatestWall.TheVariants.{Missing}
 use Rattle.context.specs.declared.State.{State}
-use Rattle.context.specs.Context.{Context, next, with_joint, given, missing, absent}
-use Rattle.context.specs.Running.{JointTable, joint_at, walled, wall_kept, next_joints, next_state, absent_in}
-use Rattle.context.proofs.Laws.{joints_length}
+use Rattle.context.specs.Context.{Context, nothing, next, with_joint, given, missing, absent}
+use Rattle.context.specs.Running.{JointTable, joint_at, no_joints, start_state, walled, wall_kept, next_joints, next_state, absent_in}
+use Rattle.context.proofs.Laws.{no_joint_there, no_joints_length, joints_length}
 
 -- what is kept of the wall base that holds
 abbrev pub latest_wall : Option Settings → Bool → Option WallBase → LatestWall
@@ -36,6 +36,12 @@ pub record Shows (room : Bool) (t : State) (table : JointTable) (h : Context) : 
   pub joints : (id : ℕ) → id < 256 → h.joints id ≡ joint_at table id
   -- no wall before the settings
   pub ordered : given h.settings ≡ false → h.wall ≡ None
+
+-- at the start of a building nothing is given
+pub start_shows : (room : Bool) → Shows room start_state no_joints nothing
+unfolding start_state
+start_shows room =
+    record { state = refl; size = no_joints_length; joints = λ id h. sym (no_joint_there id); ordered = λ e. refl }
 
 -- the ids of a command are bytes
 abbrev pub IdsFit : Command → Type 0
@@ -90,21 +96,24 @@ module _ (room : Bool) (t : State) (table : JointTable) (h : Context) (s : Shows
   joints_next id j i k l (no n) = rw (ne_eqb k id n, get_or-set_other table id k (Some j) None n) (s.joints k l)
 
   state_next : (c : Command) → InPlace t c → next_state room t c ≡ state_of room (next h c)
-  unfolding next_state next
+  unfolding next_state next start_state
   state_next (settings x) p =
       rw (s.state, s.ordered (settings_given_lem room t table h s ∙ p))
   state_next (wall_base b) p = rw s.state
   state_next (soil x) p = rw s.state
+  state_next building p = refl
   state_next _ p = s.state
 
   table_next : (c : Command) → IdsFit c → (id : ℕ) → id < 256 → (next h c).joints id ≡ joint_at (next_joints table c) id
   unfolding next_joints next
   table_next (joint id j) i k l = joints_next id j i k l (ℕ_discrete k id)
+  table_next building i k l = sym (no_joint_there k)
   table_next _ i k l = s.joints k l
 
   ordered_next : (c : Command) → InPlace t c → given (next h c).settings ≡ false → (next h c).wall ≡ None
   unfolding next
   ordered_next (settings x) p e = absurd (differ e)
+  ordered_next building p e = refl
   ordered_next (wall_base b) p e = absurd (differ (sym p ∙ sym (settings_given_lem room t table h s) ∙ e))
   ordered_next _ p e = s.ordered e
 
@@ -112,7 +121,7 @@ module _ (room : Bool) (t : State) (table : JointTable) (h : Context) (s : Shows
   shows_next c i p =
       record {
         state = state_next c p;
-        size = joints_length table c ∙ s.size;
+        size = joints_length table c s.size;
         joints = table_next c i;
         ordered = ordered_next c p;
       }

@@ -1,5 +1,6 @@
 -- The context of a command, what holds at it: settings, joints by id, the latest wall base as it was given, the latest soil with its
--- sensitivity; and how a command changes it. 01, "Job commands"; 02, No. 9.
+-- sensitivity; and how a command changes it. 01, "Job commands"; 02, No. 9 and No. 10. What is counted of the file, its commands and
+-- buildings, is no part of it (`job`).
 use Rattle.std.specs.Prelude.{Bool, false, ◌||◌, cond, List, [], ℕ, eqb, Option, None, Some, is_some, is_none}
 use Rattle.std.specs.Float.{binary32}
 use Rattle.std.specs.Float.Ieee.{of_bits}
@@ -8,7 +9,7 @@ use Rattle.coefficient.specs.declared.Settings.{Settings}
 use Rattle.members.specs.declared.Joint.{Joint}
 use Rattle.walls.specs.declared.WallBase.{WallBase}
 use Rattle.format.specs.declared.Command.{Command}
-use Rattle.format.specs.declared.Command.TheVariants.{Settings as settings, Joint as joint, Hingeless as hingeless, WallBase as wall_base, Storey as storey, Soil as soil, Footing as footing, Basement as basement}
+use Rattle.format.specs.declared.Command.TheVariants.{Settings as settings, Joint as joint, Hingeless as hingeless, WallBase as wall_base, Storey as storey, Soil as soil, Footing as footing, Basement as basement, Building as building}
 use Rattle.format.specs.declared.SoilGiven.{SoilGiven}
 use Rattle.context.specs.declared.Ground.{Ground}
 
@@ -18,7 +19,7 @@ pub record Context : Type 0 where
   pub wall : Option WallBase
   pub ground : Option Ground
 
--- at the start of a job nothing is given
+-- at the start of a building nothing is given
 abbrev pub nothing : Context
 nothing = record { settings = None; joints = λ id. None; wall = None; ground = None }
 
@@ -29,12 +30,14 @@ ground_of s = record { soil = soil_holding s.kind (of_bits binary32 s.value); se
 abbrev pub with_joint : ℕ → Joint → (ℕ → Option Joint) → ℕ → Option Joint
 with_joint id j joints i = cond (eqb i id) (Some j) (joints i)
 
--- what holds after a command; one that only writes rows, or ends the job, changes nothing
+-- what holds after a command; one that only writes rows, or ends the job, changes nothing. 02, No. 10: "New command 0D, without
+-- operands, begins another building: joints, soil and wall are forgotten and settings must be the next command"
 unfoldable pub next : Context → Command → Context
 next h (settings s) = record h { settings = Some s }
 next h (joint id j) = record h { joints = with_joint id j h.joints }
 next h (wall_base b) = record h { wall = Some b }
 next h (soil s) = record h { ground = Some (ground_of s) }
+next h building = nothing
 next h _ = h
 
 abbrev pub given : {A : Type 0} → Option A → Bool

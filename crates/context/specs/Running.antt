@@ -1,7 +1,7 @@
 -- The same in the shape that the code keeps: of the latest wall its running values (its coefficient, base shear and MR, worked out
 -- once at the base command), and the joints in a table with a place for each of 256 ids. Where no row is to be written (`room` is
 -- false) it is only kept that a wall is given, not its values. proofs/Shown.antt ties a state and a table to the context.
-use Rattle.std.specs.Prelude.{◌≡◌, Bool, true, false, not, ◌||◌, cond, List, ℕ, ◌≤◌, eqb, leb, get_or, set, Option, None, Some, IfSome}
+use Rattle.std.specs.Prelude.{◌≡◌, Bool, true, false, not, ◌||◌, cond, List, ℕ, ◌≤◌, eqb, leb, get_or, set, replicate, Option, None, Some, IfSome}
 use Rattle.coefficient.specs.declared.Settings.{Settings}
 use Rattle.members.specs.declared.Joint.{Joint}
 use Rattle.members.specs.Hingeless.{JointRange}
@@ -9,7 +9,7 @@ use Rattle.walls.specs.declared.Wall.{Wall}
 use Rattle.walls.specs.declared.WallBase.{WallBase}
 use Rattle.walls.specs.Running.{wall_of, WallRange}
 use Rattle.format.specs.declared.Command.{Command}
-use Rattle.format.specs.declared.Command.TheVariants.{Settings as settings, Joint as joint, Hingeless as hingeless, WallBase as wall_base, Storey as storey, Soil as soil, Footing as footing, Basement as basement}
+use Rattle.format.specs.declared.Command.TheVariants.{Settings as settings, Joint as joint, Hingeless as hingeless, WallBase as wall_base, Storey as storey, Soil as soil, Footing as footing, Basement as basement, Building as building}
 use Rattle.format.specs.Commands.{in_range}
 use Rattle.context.specs.declared.LatestWall.{LatestWall}
 use Rattle.context.specs.declared.LatestWall.TheVariants.{Missing, Given, Running}
@@ -28,8 +28,13 @@ JointTable = List (Option Joint)
 abbrev pub joint_at : JointTable → ℕ → Option Joint
 joint_at joints id = get_or joints id None
 
+-- no joint is given
+abbrev pub no_joints : JointTable
+no_joints = replicate 256 None
+
 unfoldable pub next_joints : JointTable → Command → JointTable
 next_joints joints (joint id j) = set joints id (Some j)
+next_joints joints building = no_joints
 next_joints joints _ = joints
 
 -- ---- the state
@@ -59,6 +64,7 @@ unfoldable pub next_state : Bool → State → Command → State
 next_state room t (settings s) = record t { settings = Some s }
 next_state room t (wall_base b) = record t { wall = wall_kept t.settings room b }
 next_state room t (soil s) = record t { soil = Some (ground_of s) }
+next_state room t building = start_state
 next_state room t _ = t
 
 -- refusal 6, off the state and the table

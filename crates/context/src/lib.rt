@@ -112,6 +112,7 @@ pub fn next(state: &mut State, room: bool, command: Command)
         Command::Settings(settings) => state.settings = Some(settings),
         Command::WallBase(base) => state.wall = wall_kept(state.settings, room, base),
         Command::Soil(given) => state.soil = Some(ground_given(given)),
+        Command::Building => *state = start(),
         _ => {}
     }
 }
@@ -121,8 +122,10 @@ pub fn next(state: &mut State, room: bool, command: Command)
 pub fn hold_joint(joints: &mut Joints, command: Command)
     ensures { joints.new ≡ next_joints joints.old command }
 {
-    if let Command::Joint(id, joint) = command {
-        joints[usize::from(id)] = Some(joint);
+    match command {
+        Command::Joint(id, joint) => joints[usize::from(id)] = Some(joint),
+        Command::Building => *joints = [None; 256],
+        _ => {}
     }
 }
 

@@ -58,6 +58,7 @@ command_same byte v w =
     (λ h. rw (h 0 (lit< tt), h 1 (lit< tt), h 2 (lit< tt), h 3 (lit< tt), h 4 (lit< tt)))
     (λ h.
     rw (h 0 (lit< tt), h 1 (lit< tt), h 2 (lit< tt), h 3 (lit< tt), h 4 (lit< tt), h 5 (lit< tt), h 6 (lit< tt), h 7 (lit< tt)))
+    (λ h. refl)
     (λ b l h. command_other b v l ∙ sym (command_other b w l))
     byte
 

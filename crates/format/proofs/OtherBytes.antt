@@ -4,7 +4,7 @@ use mathlib.Core.Path.{◌≡◌, refl}
 use Prim.Native.Nat.{ℕ}
 use Rattle.layout.specs.Layouts.{known, known_in}
 use Rattle.layout.proofs.KnownBytes.{other}
-use Rattle.format.specs.Commands.{Command, finish, settings, joint, column, beam, hingeless, wall_base, storey, soil, footing, detail, basement, byte_of, command_of}
+use Rattle.format.specs.Commands.{Command, finish, settings, joint, column, beam, hingeless, wall_base, storey, soil, footing, detail, basement, building, byte_of, command_of}
 
 pub command_other : (b : ℕ) (v : ℕ → ℕ) → known b ≡ false → command_of b v ≡ finish
 unfolding command_of known known_in
@@ -24,3 +24,4 @@ byte_known (soil s) = refl
 byte_known (footing f) = refl
 byte_known (detail d) = refl
 byte_known (basement id m) = refl
+byte_known building = refl

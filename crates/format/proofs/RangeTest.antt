@@ -9,8 +9,8 @@ use lib.ListN.{length, get_or}
 use Rattle.layout.specs.declared.Form.{Form}
 use Rattle.layout.specs.declared.Form.TheVariants.{Id}
 use Rattle.layout.specs.Forms.{form_in_range}
-use Rattle.layout.specs.Layouts.{forms_of}
-use Rattle.format.specs.Commands.{Command, byte_of, operands_of, related, all_in_range, in_range}
+use Rattle.layout.specs.Layouts.{forms_of, forms_in}
+use Rattle.format.specs.Commands.{Command, finish, building, byte_of, operands_of, related, all_in_range, in_range}
 use Rattle.layout.proofs.OperandsRead.{at}
 
 pub and_first : (a b : Bool) → (a && b) ≡ true → a ≡ true
@@ -73,3 +73,14 @@ in_turn_alone c h =
     sym (and-true (in_turn true (forms_of (byte_of c)) (operands_of c)))
     ∙ ap (λ (t : Bool). in_turn true (forms_of (byte_of c)) (operands_of c) && t) (sym h)
     ∙ in_turn_lem c
+
+-- ---- a command without operands
+
+-- the end and another building have none that could be out of range
+pub end_in_range : in_range finish ≡ true
+unfolding in_range all_in_range related forms_of forms_in
+end_in_range = refl
+
+pub building_in_range : in_range building ≡ true
+unfolding in_range all_in_range related forms_of forms_in
+building_in_range = refl

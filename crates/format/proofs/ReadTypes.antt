@@ -30,7 +30,7 @@ types_of byte v =
       hv = signed_fits (v 10) (f 10 (lit< tt));
       he = signed_fits (v 11) (f 11 (lit< tt));
     })
-    (λ f. tt) (λ f. (f 1 (lit< tt), signed_fits (v 2) (f 2 (lit< tt)), signed_fits (v 4) (f 4 (lit< tt))))
+    (λ f. tt) (λ f. (f 1 (lit< tt), signed_fits (v 2) (f 2 (lit< tt)), signed_fits (v 4) (f 4 (lit< tt)))) (λ f. tt)
     (λ b h f. subst OfTypes (sym (command_other b v h)) tt) byte
 
 pub types_read : (job : List ℕ) (offset : ℕ) → Bytes job → OfTypes (command_at job offset)

@@ -54,17 +54,18 @@ operands_back =
     ) (listed_to 15 vs e))
     (λ vs e f. listed_to 5 vs e)
     (λ vs e f. rw (bits_of_signed (at vs 2) (f 2 (lit< tt)), bits_of_signed (at vs 4) (f 4 (lit< tt))) (listed_to 8 vs e))
+    (λ vs e f. listed_to 0 vs e)
     (λ b h vs e f. rw (command_other b (at vs) h) (listed_to 0 vs (rw (no_forms b h) at e)))
 
 pub byte_back : (byte : ℕ) (v : ℕ → ℕ) → known byte ≡ true → byte_of (command_of byte v) ≡ byte
 unfolding command_of
 byte_back byte v =
     each_byte (λ b. known b ≡ true → byte_of (command_of b v) ≡ b) (λ h. refl) (λ h. refl) (λ h. refl) (λ h. refl) (λ h. refl)
-    (λ h. refl) (λ h. refl) (λ h. refl) (λ h. refl) (λ h. refl) (λ h. refl) (λ h. refl) (λ b h k. not_both b k h) byte
+    (λ h. refl) (λ h. refl) (λ h. refl) (λ h. refl) (λ h. refl) (λ h. refl) (λ h. refl) (λ h. refl) (λ b h k. not_both b k h) byte
 
 -- the forms of a command made of operands, at any byte
 pub forms_back : (byte : ℕ) (v : ℕ → ℕ) → forms_of (byte_of (command_of byte v)) ≡ forms_of byte
 unfolding forms_of forms_in command_of
 forms_back byte v =
-    each_byte (λ b. forms_of (byte_of (command_of b v)) ≡ forms_of b) refl refl refl refl refl refl refl refl refl refl refl refl
+    each_byte (λ b. forms_of (byte_of (command_of b v)) ≡ forms_of b) refl refl refl refl refl refl refl refl refl refl refl refl refl
     (λ b h. rw (command_other b v h, no_forms b h)) byte

@@ -32,7 +32,7 @@ use Rattle.format.proofs.AtFault.{InBefore, operand_found, relation_found}
 pub count_le : (byte : ℕ) → length (forms_of byte) ≤ 16
 unfolding forms_of forms_in
 count_le byte =
-    each_byte (λ b. length (forms_of b) ≤ 16) (lit≤ tt) (lit≤ tt) (lit≤ tt) (lit≤ tt) (lit≤ tt) (lit≤ tt) (lit≤ tt) (lit≤ tt) (lit≤ tt) (lit≤ tt) (lit≤ tt) (lit≤ tt)
+    each_byte (λ b. length (forms_of b) ≤ 16) (lit≤ tt) (lit≤ tt) (lit≤ tt) (lit≤ tt) (lit≤ tt) (lit≤ tt) (lit≤ tt) (lit≤ tt) (lit≤ tt) (lit≤ tt) (lit≤ tt) (lit≤ tt) (lit≤ tt)
     (λ b h. subst (λ (fs : List Form). length fs ≤ 16) (sym (no_forms b h)) (lit≤ tt)) byte
 
 -- the operands of this byte's forms that start at an offset

@@ -1,5 +1,5 @@
 -- The commands of a job, with named operands; their order in the file; the range test, which is a test of a command's values; and
--- the operand at fault. 01, "Job commands"; 02, No. 9. The type itself is the code's (src/lib.rt).
+-- the operand at fault. 01, "Job commands"; 02, No. 9 and No. 10. The type itself is the code's (src/lib.rt).
 use Rattle.std.specs.Prelude.{Bool, true, false, ◌&&◌, ◌||◌, cond, List, [], ◌∷◌, ℕ, suc, eqb, leb, ltb, length, Option, Some, None}
 use Rattle.soil.specs.Reading.{soil_allowed}
 use Rattle.coefficient.specs.declared.Settings.{Settings}
@@ -15,7 +15,7 @@ use Rattle.basement.specs.declared.Basement.{Basement}
 use Rattle.layout.specs.declared.Form.{Form}
 pub use Rattle.format.specs.declared.SoilGiven.{SoilGiven}
 pub use Rattle.format.specs.declared.Command.{Command}
-pub use Rattle.format.specs.declared.Command.TheVariants.{Finish as finish, Settings as settings, Joint as joint, Column as column, Beam as beam, Hingeless as hingeless, WallBase as wall_base, Storey as storey, Soil as soil, Footing as footing, Detail as detail, Basement as basement}
+pub use Rattle.format.specs.declared.Command.TheVariants.{Finish as finish, Settings as settings, Joint as joint, Column as column, Beam as beam, Hingeless as hingeless, WallBase as wall_base, Storey as storey, Soil as soil, Footing as footing, Detail as detail, Basement as basement, Building as building}
 use Rattle.layout.specs.Number.{signed32, bits32}
 use Rattle.layout.specs.Forms.{form_in_range}
 use Rattle.layout.specs.Layouts.{forms_of}
@@ -33,6 +33,7 @@ byte_of (soil s) = 8
 byte_of (footing f) = 9
 byte_of (detail d) = 10
 byte_of (basement id m) = 12
+byte_of building = 13
 
 -- the operands in the file's order, as they stand in it
 abbrev pub operands_of : Command → List ℕ
@@ -50,6 +51,7 @@ operands_of (footing f) =
 operands_of (detail d) = d.place ∷ d.ultimate ∷ d.yielded ∷ d.ductility ∷ d.lap ∷ []
 operands_of (basement id m) =
     m.place ∷ id ∷ bits32 m.nonseismic_shear ∷ m.seismic_shear ∷ bits32 m.nonseismic_moment ∷ m.seismic_moment ∷ m.shear_strength ∷ m.moment_strength ∷ []
+operands_of building = []
 
 -- ---- the commands from their operands: v i is operand i, counted from 0
 
@@ -125,7 +127,8 @@ command_of byte v =
     (cond (eqb byte 9) (footing (footing_of v))
     (cond (eqb byte 10) (detail (detail_of v))
     (cond (eqb byte 12) (basement (v 1) (basement_of v))
-    finish))))))))))
+    (cond (eqb byte 13) building
+    finish)))))))))))
 
 -- ---- the range test
 
@@ -143,6 +146,7 @@ related (soil s) = soil_allowed s.kind s.value
 related (footing f) = true
 related (detail d) = true
 related (basement id m) = eqb m.place 0 || eqb id 0
+related building = true
 
 unfoldable pub all_in_range : List Form → List ℕ → Bool
 unfolding form_in_range

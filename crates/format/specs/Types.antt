@@ -4,7 +4,7 @@ use Rattle.std.specs.Prelude.{◌<◌}
 use Rattle.std.specs.Int.{w32}
 use Rattle.std.proofs.Common.{SFits}
 use Rattle.footing.specs.declared.Footing.{Footing}
-use Rattle.format.specs.Commands.{Command, finish, settings, joint, column, beam, hingeless, wall_base, storey, soil, footing, detail, basement}
+use Rattle.format.specs.Commands.{Command, finish, settings, joint, column, beam, hingeless, wall_base, storey, soil, footing, detail, basement, building}
 
 -- each signed value of a footing is one of 32 bits
 pub record FootingFits (f : Footing) : Type 0 where
@@ -30,3 +30,4 @@ OfTypes (soil s) = s.value < 4294967296
 OfTypes (footing f) = FootingFits f
 OfTypes (detail d) = Unit {0}
 OfTypes (basement id m) = (id < 256) × SFits w32 m.nonseismic_shear × SFits w32 m.nonseismic_moment
+OfTypes building = Unit {0}

@@ -1,5 +1,5 @@
 // The commands of a job: one value with its operands, read from their bytes; the range test of its values; the operand at fault.
-// 01, "Job commands"; 02, No. 9.
+// 01, "Job commands"; 02, No. 9 and No. 10.
 // The check opens at each goal what says where operands stand, how wide they are and what their ranges are.
 #![tactic(auto, unfolding(crate::specs::Commands::command_of, crate::specs::Commands::in_range, crate::specs::Commands::all_in_range, crate::specs::Commands::related, layout::specs::Operands::operand, layout::specs::Operands::offset_of, layout::specs::Layouts::operands_width, layout::specs::Layouts::width_of_all, layout::specs::Layouts::forms_of, layout::specs::Layouts::forms_in, layout::specs::Forms::width, layout::specs::Forms::form_in_range))]
 
@@ -44,6 +44,7 @@ pub enum Command {
     Footing(Footing),
     Detail(Detail),
     Basement(u8, Basement),
+    Building,
 }
 
 // ---- the values of each command
@@ -426,6 +427,7 @@ impl Command {
             Command::Footing(_) => Kind::Footing,
             Command::Detail(_) => Kind::Detail,
             Command::Basement(_, _) => Kind::Basement,
+            Command::Building => Kind::Building,
         }
     }
 
@@ -447,6 +449,7 @@ impl Command {
             Command::Footing(f) => f.in_range(),
             Command::Detail(d) => d.in_range(),
             Command::Basement(id, m) => (id, m).in_range(),
+            Command::Building => true,
         }
     }
 }
@@ -532,6 +535,7 @@ impl<'a> CommandBytes<'a> {
                 let (id, member) = <(u8, Basement)>::read(operands);
                 Command::Basement(id, member)
             }
+            Kind::Building => Command::Building,
         }
     }
 

@@ -3,7 +3,7 @@
 -- "members already met keep the figures they had". Assumes nothing.
 use mathlib.Core.Path.{◌≡◌, refl, sym, ap, ◌∙◌, subst}
 use mathlib.Core.List.{List, [], ◌∷◌, ◌++◌, append_assoc}
-use Prim.Native.Nat.{ℕ, zero, suc, ◌+◌, ◌≤◌, ◌<◌}
+use Prim.Native.Nat.{ℕ, zero, suc, ◌≤◌, ◌<◌}
 use native.Mathlib.Omega.{arith}
 use native.Mathlib.Decide.{dec_le}
 use lib.IntN.{ℤ}
@@ -13,11 +13,13 @@ use Rattle.layout.specs.Operands.{byte_at}
 use Rattle.blocks.specs.FileCommands.{file_command_at, width_at}
 use Rattle.blocks.proofs.FileCommands.{width_some}
 use Rattle.context.specs.Context.{Context, nothing}
+use Rattle.job.specs.declared.Counts.{Counts}
+use Rattle.job.specs.Counts.{first_counts}
 use Rattle.job.specs.Faults.{tests_at, after_command}
 use Rattle.job.specs.Placed.{Placed, Entry, entry_at, placed_all, placed_in, Listing, refused, accepted, before, listed_by, listed, rows_at, all_rows}
 use Rattle.job.specs.Earlier.{end_of, ending_by}
 use Rattle.job.proofs.Faultless.{end_of_lem}
-use Rattle.job.proofs.PlacedCases.{fault_at, weight_at, context_behind, rest_after, by_cases}
+use Rattle.job.proofs.PlacedCases.{fault_at, counts_behind, context_behind, rest_after, by_cases}
 use Rattle.job.proofs.Front.{byte_in_front, width_in_front, given_in_front, not_held}
 
 module _ (limit : ℕ) where
@@ -37,14 +39,14 @@ module _ (limit : ℕ) where
   beyond_more p (refused number offset) l b = tt
   beyond_more p (accepted ps) l b = unmet p ps l ∙ b
 
-  beyond : (n : ℕ) (job : List ℕ) (at count : ℕ) (h : Context) → limit < after_command job at → Beyond (listed_by tests_at n job at count h)
+  beyond : (n : ℕ) (job : List ℕ) (at : ℕ) (counts : Counts) (h : Context) → limit < after_command job at → Beyond (listed_by tests_at n job at counts h)
   unfolding listed_by
-  beyond zero job at count h l = tt
-  beyond (suc n) job at count h l =
-      by_cases tests_at n job at count h Beyond (λ w. tt) (λ w k f. tt) (λ w f b m. tt) (λ w f b m. refl)
+  beyond zero job at counts h l = tt
+  beyond (suc n) job at counts h l =
+      by_cases tests_at n job at counts h Beyond (λ w. tt) (λ w k f. tt) (λ w f b m. tt) (λ w f b m. refl)
       (λ w f b.
-      beyond_more (entry_at job at h) (rest_after tests_at n job at count h) (omega (arith, end_of_lem job at count h f))
-      (beyond n job (after_command job at) (count + weight_at job at) (context_behind job at h) (omega (arith, width_some job (after_command job at)))))
+      beyond_more (entry_at job at h) (rest_after tests_at n job at counts h) (omega (arith, end_of_lem job at counts h f))
+      (beyond n job (after_command job at) (counts_behind job at counts) (context_behind job at h) (omega (arith, width_some job (after_command job at)))))
 
   -- ---- the commands that end by the limit are the first
 
@@ -59,16 +61,16 @@ module _ (limit : ℕ) where
       let g : limit < end_of p = omega arith in
       (p ∷ ps, ap (λ (xs : List Entry). xs ++ p ∷ ps) (sym (unmet p ps g ∙ b g)))
 
-  first : (n : ℕ) (job : List ℕ) (at count : ℕ) (h : Context) → First (listed_by tests_at n job at count h)
+  first : (n : ℕ) (job : List ℕ) (at : ℕ) (counts : Counts) (h : Context) → First (listed_by tests_at n job at counts h)
   unfolding listed_by
-  first zero job at count h = tt
-  first (suc n) job at count h =
-      by_cases tests_at n job at count h First (λ w. tt) (λ w k f. tt) (λ w f b m. tt) (λ w f b m. ([], refl))
+  first zero job at counts h = tt
+  first (suc n) job at counts h =
+      by_cases tests_at n job at counts h First (λ w. tt) (λ w k f. tt) (λ w f b m. tt) (λ w f b m. ([], refl))
       (λ w f b.
       let after = after_command job at in
-      first_more (entry_at job at h) (rest_after tests_at n job at count h) (dec_le (end_of (entry_at job at h)) limit)
-      (λ l. beyond n job after (count + weight_at job at) (context_behind job at h) (omega (arith, end_of_lem job at count h f, width_some job after)))
-      (first n job after (count + weight_at job at) (context_behind job at h)))
+      first_more (entry_at job at h) (rest_after tests_at n job at counts h) (dec_le (end_of (entry_at job at h)) limit)
+      (λ l. beyond n job after (counts_behind job at counts) (context_behind job at h) (omega (arith, end_of_lem job at counts h f, width_some job after)))
+      (first n job after (counts_behind job at counts) (context_behind job at h)))
 
 -- ---- two jobs alike in front
 
@@ -92,15 +94,15 @@ module _ (front a b : List ℕ) where
   alike_more p (accepted ps) (refused m o) l x = tt
   alike_more p (accepted ps) (accepted qs) l x = met (length front) p ps l ∙ ap (λ (xs : List Entry). p ∷ xs) x ∙ sym (met (length front) p qs l)
 
-  module _ (n at count : ℕ) (h : Context) where
+  module _ (n at : ℕ) (counts : Counts) (h : Context) where
     -- what follows the first job's command, and in the other job what follows from the same offset on
     abbrev rest : Listing
-    rest = rest_after tests_at n (front ++ a) at count h
+    rest = rest_after tests_at n (front ++ a) at counts h
 
     abbrev other_rest : Listing
-    other_rest = listed_by tests_at n (front ++ b) (after_command (front ++ a) at) (count + weight_at (front ++ a) at) (context_behind (front ++ a) at h)
+    other_rest = listed_by tests_at n (front ++ b) (after_command (front ++ a) at) (counts_behind (front ++ a) at counts) (context_behind (front ++ a) at h)
 
-  module _ (n at count : ℕ) (h : Context) (v : after_command front at ≤ length front) (ih : Alike (rest n at count h) (other_rest n at count h)) where
+  module _ (n at : ℕ) (counts : Counts) (h : Context) (v : after_command front at ≤ length front) (ih : Alike (rest n at counts h) (other_rest n at counts h)) where
     same_byte : byte_at (front ++ b) at ≡ byte_at (front ++ a) at
     same_byte = byte_in_front front at v b ∙ sym (byte_in_front front at v a)
 
@@ -110,39 +112,39 @@ module _ (front a b : List ℕ) where
     same_given : file_command_at (front ++ b) at ≡ file_command_at (front ++ a) at
     same_given = given_in_front front at v b ∙ sym (given_in_front front at v a)
 
-    held : fault_at (front ++ a) at count h ≡ 0 → end_of (entry_at (front ++ a) at h) ≤ length front
-    held f = omega (arith, end_of_lem (front ++ a) at count h f, width_in_front front at v a)
+    held : fault_at (front ++ a) at counts h ≡ 0 → end_of (entry_at (front ++ a) at h) ≤ length front
+    held f = omega (arith, end_of_lem (front ++ a) at counts h f, width_in_front front at v a)
 
     -- both go on with the same command
-    both : fault_at (front ++ a) at count h ≡ 0 → Alike (before (entry_at (front ++ a) at h) (rest_after tests_at n (front ++ a) at count h)) (before (entry_at (front ++ b) at h) (rest_after tests_at n (front ++ b) at count h))
-    both f = rw (same_width, same_given) (alike_more (entry_at (front ++ a) at h) (rest n at count h) (other_rest n at count h) (held f) ih)
+    both : fault_at (front ++ a) at counts h ≡ 0 → Alike (before (entry_at (front ++ a) at h) (rest_after tests_at n (front ++ a) at counts h)) (before (entry_at (front ++ b) at h) (rest_after tests_at n (front ++ b) at counts h))
+    both f = rw (same_width, same_given) (alike_more (entry_at (front ++ a) at h) (rest n at counts h) (other_rest n at counts h) (held f) ih)
 
-    ends_only : (byte_at (front ++ a) at ≡ 0) → Alike (accepted []) (listed_by tests_at (suc n) (front ++ b) at count h)
+    ends_only : (byte_at (front ++ a) at ≡ 0) → Alike (accepted []) (listed_by tests_at (suc n) (front ++ b) at counts h)
     ends_only z =
-        by_cases tests_at n (front ++ b) at count h (Alike (accepted [])) (λ w. tt) (λ w k g. tt) (λ w g y m. tt) (λ w g y m. refl) (λ w g y. absurd (y (same_byte ∙ z)))
+        by_cases tests_at n (front ++ b) at counts h (Alike (accepted [])) (λ w. tt) (λ w k g. tt) (λ w g y m. tt) (λ w g y m. refl) (λ w g y. absurd (y (same_byte ∙ z)))
 
-    goes_on : fault_at (front ++ a) at count h ≡ 0 → (byte_at (front ++ a) at ≡ 0 → ⊥) →
-        Alike (before (entry_at (front ++ a) at h) (rest_after tests_at n (front ++ a) at count h)) (listed_by tests_at (suc n) (front ++ b) at count h)
+    goes_on : fault_at (front ++ a) at counts h ≡ 0 → (byte_at (front ++ a) at ≡ 0 → ⊥) →
+        Alike (before (entry_at (front ++ a) at h) (rest_after tests_at n (front ++ a) at counts h)) (listed_by tests_at (suc n) (front ++ b) at counts h)
     goes_on f z =
-        let here = before (entry_at (front ++ a) at h) (rest_after tests_at n (front ++ a) at count h) in
-        by_cases tests_at n (front ++ b) at count h (Alike here) (λ w. one_refused here _ _) (λ w k g. one_refused here _ _) (λ w g y m. one_refused here _ _)
+        let here = before (entry_at (front ++ a) at h) (rest_after tests_at n (front ++ a) at counts h) in
+        by_cases tests_at n (front ++ b) at counts h (Alike here) (λ w. one_refused here _ _) (λ w k g. one_refused here _ _) (λ w g y m. one_refused here _ _)
         (λ w g y m. absurd (z (sym same_byte ∙ y))) (λ w g y. both f)
 
-  alike : (n at count : ℕ) (h : Context) → Alike (listed_by tests_at n (front ++ a) at count h) (listed_by tests_at n (front ++ b) at count h)
+  alike : (n at : ℕ) (counts : Counts) (h : Context) → Alike (listed_by tests_at n (front ++ a) at counts h) (listed_by tests_at n (front ++ b) at counts h)
   unfolding listed_by
-  alike zero at count h = tt
-  alike (suc n) at count h = by (dec_le (after_command front at) (length front)) (alike n (after_command (front ++ a) at) (count + weight_at (front ++ a) at) (context_behind (front ++ a) at h))
+  alike zero at counts h = tt
+  alike (suc n) at counts h = by (dec_le (after_command front at) (length front)) (alike n (after_command (front ++ a) at) (counts_behind (front ++ a) at counts) (context_behind (front ++ a) at h))
     where
       T : Type 0
-      T = Alike (listed_by tests_at (suc n) (front ++ a) at count h) (listed_by tests_at (suc n) (front ++ b) at count h)
+      T = Alike (listed_by tests_at (suc n) (front ++ a) at counts h) (listed_by tests_at (suc n) (front ++ b) at counts h)
 
-      by : Dec (after_command front at ≤ length front) → Alike (rest n at count h) (other_rest n at count h) → T
+      by : Dec (after_command front at ≤ length front) → Alike (rest n at counts h) (other_rest n at counts h) → T
       by (no l) ih =
-          both_beyond (listed_by tests_at (suc n) (front ++ a) at count h) (listed_by tests_at (suc n) (front ++ b) at count h)
-          (beyond (length front) (suc n) (front ++ a) at count h (not_held front a at (omega arith))) (beyond (length front) (suc n) (front ++ b) at count h (not_held front b at (omega arith)))
+          both_beyond (listed_by tests_at (suc n) (front ++ a) at counts h) (listed_by tests_at (suc n) (front ++ b) at counts h)
+          (beyond (length front) (suc n) (front ++ a) at counts h (not_held front a at (omega arith))) (beyond (length front) (suc n) (front ++ b) at counts h (not_held front b at (omega arith)))
       by (yes v) ih =
-          by_cases tests_at n (front ++ a) at count h (λ j. Alike j (listed_by tests_at (suc n) (front ++ b) at count h)) (λ w. tt) (λ w k f. tt) (λ w f z m. tt)
-          (λ w f z m. ends_only n at count h v ih z) (λ w f z. goes_on n at count h v ih f z)
+          by_cases tests_at n (front ++ a) at counts h (λ j. Alike j (listed_by tests_at (suc n) (front ++ b) at counts h)) (λ w. tt) (λ w k f. tt) (λ w f z m. tt)
+          (λ w f z m. ends_only n at counts h v ih z) (λ w f z. goes_on n at counts h v ih f z)
 
 -- ---- the theorems
 
@@ -159,14 +161,14 @@ placed_both (e ∷ es) fs = ap (λ (xs : List Placed). placed_in e ++ xs) (place
 pub met_rows_first : (job : List ℕ) (es : List Entry) → listed job ≡ accepted es → (limit : ℕ) → (later : List Placed) × (all_rows (placed_all es) ≡ all_rows (placed_all (ending_by limit es)) ++ all_rows later)
 unfolding listed
 met_rows_first job es e limit =
-    let f : First limit (accepted es) = subst (First limit) e (first limit 4097 job 0 0 nothing) in
+    let f : First limit (accepted es) = subst (First limit) e (first limit 4097 job 0 first_counts nothing) in
     (placed_all f.0, ap (λ (xs : List Entry). all_rows (placed_all xs)) f.1 ∙ ap all_rows (placed_both (ending_by limit es) f.0) ∙ rows_of_both (placed_all (ending_by limit es)) (placed_all f.0))
 
 module _ (front a b : List ℕ) (es fs : List Entry) (e : listed (front ++ a) ≡ accepted es) (g : listed (front ++ b) ≡ accepted fs) where
   -- the commands of the file that end in the front are the same, each with its offset and what holds at it
   pub same_met : ending_by (length front) es ≡ ending_by (length front) fs
   unfolding listed
-  same_met = subst (Alike front a b (accepted es)) g (subst (λ (j : Listing). Alike front a b j (listed (front ++ b))) e (alike front a b 4097 0 0 nothing))
+  same_met = subst (Alike front a b (accepted es)) g (subst (λ (j : Listing). Alike front a b j (listed (front ++ b))) e (alike front a b 4097 0 first_counts nothing))
 
   -- and so are their rows
   pub same_met_rows : all_rows (placed_all (ending_by (length front) es)) ≡ all_rows (placed_all (ending_by (length front) fs))

@@ -13,7 +13,7 @@ use Rattle.format.specs.Reading.{command_at}
 use Rattle.blocks.specs.FileCommands.{file_command_at, width_at, file_operand_at_fault}
 use Rattle.context.specs.Context.{next, absent}
 use Rattle.rows.specs.Rows.{rows_of, rows_with}
-use Rattle.job.specs.Faults.{too_many, misplaced, command_tests, tests_at}
+use Rattle.job.specs.Faults.{too_many, seventeenth, misplaced, command_tests, tests_at}
 use Rattle.job.specs.Placed.{listed_by, listed, placed, all_rows}
 use Rattle.job.specs.Answers.{FaultAnswer, rows_answer, size_of, fault_of}
 use Rattle.job.proofs.Refusals.{zeros, settings, joint, wall_base, finish}
@@ -51,7 +51,7 @@ pub record BasementTrial : Type 0 where
 
 pub basement_trial : BasementTrial
 unfolding
-    fault_of size_of all_rows rows_of rows_with placed listed listed_by tests_at command_tests width_at file_command_at file_operand_at_fault operand_at_fault first_outside relation_names too_many misplaced known known_in forms_of forms_in operands_width width_of_all width command_at command_of read_operands
+    fault_of size_of all_rows rows_of rows_with placed listed listed_by tests_at command_tests width_at file_command_at file_operand_at_fault operand_at_fault first_outside relation_names too_many seventeenth misplaced known known_in forms_of forms_in operands_width width_of_all width command_at command_of read_operands
     number number_after in_range all_in_range form_in_range related within within_signed signed32 bits32 next absent
 basement_trial =
     record {

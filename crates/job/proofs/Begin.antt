@@ -3,43 +3,31 @@
 use mathlib.Core.Path.{◌≡◌, refl, sym, ap, ◌∙◌, subst}
 use mathlib.Core.Bool.{Bool}
 use mathlib.Core.List.{List}
-use Prim.Native.Nat.{ℕ, zero, suc}
+use Prim.Native.Nat.{ℕ}
 use native.Mathlib.Omega.{arith}
 use lib.IntN.{ℤ}
-use lib.ListN.{length, replicate, length-replicate}
-use Rattle.std.specs.Prelude.{Option, None}
-use Rattle.members.specs.declared.Joint.{Joint}
+use lib.ListN.{length}
 use Rattle.layout.specs.Operands.{byte_at}
 use Rattle.layout.proofs.Numbers.{Bytes}
 use Rattle.context.specs.Context.{nothing}
-use Rattle.context.specs.Running.{room_for, joint_at, start_state}
-use Rattle.context.proofs.Laws.{start_sound}
-use Rattle.context.proofs.Shown.{Shows}
+use Rattle.context.specs.Running.{room_for, no_joints}
+use Rattle.context.proofs.Laws.{start_sound, no_joints_sound}
+use Rattle.context.proofs.Shown.{start_shows}
 use Rattle.job.specs.Placed.{Job, Listing, refused, accepted, listed, placed_all, placed_of, placed}
 use Rattle.job.specs.Answers.{rows_answer, refused_answer, no_fault, size_from, size_of, fault_in, fault_of}
-use Rattle.job.specs.Walking.{WalkAnswer, Refused, Finished, Paused, Final, first_place, no_joints, walk_from, WalkAsks}
+use Rattle.job.specs.Walking.{WalkAnswer, Refused, Finished, Paused, Final, first_place, walk_from, WalkAsks}
 use Rattle.job.proofs.OneCommand.{Going}
 use Rattle.job.proofs.Simulation.{Matches, simulates}
-
-none_there : (n id : ℕ) → joint_at (replicate n None) id ≡ None
-none_there zero id = refl
-none_there (suc n) zero = refl
-none_there (suc n) (suc id) = none_there n id
 
 pub begin_asks : (job : List ℕ) → WalkAsks job first_place no_joints
 unfolding first_place
 begin_asks job =
-    record { state = start_sound; joints = λ id. rw (none_there 256 id) tt; offset = omega arith; count = omega arith; rows = omega arith }
+    record { state = start_sound; joints = no_joints_sound; offset = omega arith; commands = omega arith; buildings = omega arith; rows = omega arith }
 
 module _ (room : Bool) where
-  pub begin_shows : Shows room start_state no_joints nothing
-  unfolding start_state
-  begin_shows =
-      record { state = refl; size = length-replicate {A = Option Joint} 256 None; joints = λ id h. sym (none_there 256 id); ordered = λ e. refl }
-
   pub begin_going : (job : List ℕ) (memory : List ℤ) → Bytes job → room_for (length memory) ≡ room → Going room 4097 job first_place no_joints memory nothing
   unfolding first_place
-  begin_going job memory b r = record { bytes = b; shows = begin_shows; room_is = r; left = omega arith; count = omega arith; offset = omega arith }
+  begin_going job memory b r = record { bytes = b; shows = start_shows room; room_is = r; left = omega arith; commands = omega arith; offset = omega arith }
 
   pub begin_matches : (job : List ℕ) (memory : List ℤ) → Bytes job → room_for (length memory) ≡ room → Matches job (listed job) (walk_from room 4097 job first_place no_joints memory) 0 memory
   unfolding first_place listed

@@ -13,10 +13,11 @@ use Rattle.format.specs.Reading.{command_at}
 use Rattle.blocks.specs.Sets.{count_in_range, storey_at, storeys_at, set_at_fault, all_in_range as sets_in_range}
 use Rattle.blocks.specs.FileCommands.{file_command_at, width_at, file_operand_at_fault}
 use Rattle.context.specs.Context.{nothing, next, absent}
-use Rattle.job.specs.Faults.{too_many, misplaced, passes_limit, command_tests, block_tests, tests_at}
+use Rattle.job.specs.Faults.{too_many, seventeenth, misplaced, passes_limit, command_tests, block_tests, tests_at}
 use Rattle.job.specs.Placed.{Placed, placed_all, listed_by, listed, placed}
 use Rattle.job.specs.Reached.{reached_from, reached}
 use Rattle.job.specs.Answers.{FaultAnswer, fault_of}
+use Rattle.job.proofs.Passing.{so_many}
 use Rattle.job.proofs.PlacedCases.{fault_at}
 use Rattle.job.proofs.Refusals.{zeros, settings, wall_base, finish, begun}
 
@@ -57,7 +58,7 @@ pub record BlockTrial : Type 0 where
 
 pub block_trial : BlockTrial
 unfolding
-    fault_of placed listed listed_by reached reached_from tests_at command_tests block_tests too_many misplaced passes_limit known known_in forms_of forms_in operands_width width_of_all width command_at command_of read_operands number number_after
+    fault_of placed listed listed_by reached reached_from tests_at command_tests block_tests too_many seventeenth misplaced passes_limit known known_in forms_of forms_in operands_width width_of_all width command_at command_of read_operands number number_after
     in_range all_in_range form_in_range related within within_signed signed32 bits32 next absent count_in_range storey_at storeys_at sets_in_range set_at_fault operand offset_of file_command_at width_at file_operand_at_fault first_outside relation_names operand_at_fault
 block_trial =
     record {
@@ -76,10 +77,10 @@ block_trial =
 
 -- after so many commands, with settings given and no base: 8 where the block would pass 4,096, after 1 and before 4, 6 and 5
 pub record BlockLimit : Type 0 where
-  pub fills : fault_at (block 2 (good ++ good)) 0 4094 begun ≡ 6
-  pub passes : fault_at (block 2 (good ++ good)) 0 4095 begun ≡ 8
-  pub passes_cut : fault_at (block 2 good) 0 4096 begun ≡ 1
-  pub passes_first : fault_at (block 1 bad) 0 4096 nothing ≡ 8
+  pub fills : fault_at (block 2 (good ++ good)) 0 (so_many 1 4094) begun ≡ 6
+  pub passes : fault_at (block 2 (good ++ good)) 0 (so_many 1 4095) begun ≡ 8
+  pub passes_cut : fault_at (block 2 good) 0 (so_many 1 4096) begun ≡ 1
+  pub passes_first : fault_at (block 1 bad) 0 (so_many 1 4096) nothing ≡ 8
 
 pub block_limit : BlockLimit
 unfolding

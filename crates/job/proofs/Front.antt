@@ -20,6 +20,7 @@ use Rattle.blocks.specs.Sets.{is_block, count_at, storey_at, storeys_at, sets_of
 use Rattle.blocks.specs.FileCommands.{one, block, file_command_at, width_at}
 use Rattle.blocks.proofs.FileCommands.{width_one, width_block, width_some}
 use Rattle.context.specs.Context.{Context}
+use Rattle.job.specs.declared.Counts.{Counts}
 use Rattle.job.specs.Faults.{after_command, command_tests, block_tests, tests_at}
 use Rattle.job.proofs.PlacedCases.{fault_at}
 
@@ -104,10 +105,10 @@ module _ (front : List ℕ) (at : ℕ) (w : after_command front at ≤ length fr
       le-ltb (length (front ++ more)) (after_command (front ++ more) at) (omega (arith, longer, width_in_front))
       ∙ sym (le-ltb (length front) (after_command front at) w)
 
-  pub fault_in_front : (count : ℕ) (h : Context) → fault_at (front ++ more) at count h ≡ fault_at front at count h
+  pub fault_in_front : (counts : Counts) (h : Context) → fault_at (front ++ more) at counts h ≡ fault_at front at counts h
   unfolding tests_at command_tests block_tests
-  fault_in_front count h =
-      either (λ l. fault_at l at count h) (λ b. rw (not_cut, byte_in_front, b, command_in_front b))
+  fault_in_front counts h =
+      either (λ l. fault_at l at counts h) (λ b. rw (not_cut, byte_in_front, b, command_in_front b))
       (λ b.
       let k : at + 1 < length front = omega (arith, width_block front at b) in
       let counted : leb (length (front ++ more)) (at + 1) ≡ leb (length front) (at + 1) =

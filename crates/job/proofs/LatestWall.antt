@@ -1,7 +1,8 @@
 -- The running values of the latest wall: at every storey that a walk reaches they are those that 01 gives for the latest base command;
--- a base command works them out, no other command changes them, and a walk without room works out none. 02, No. 4. Assumes nothing.
-use mathlib.Core.Path.{◌≡◌, refl, sym, ap, ◌∙◌}
-use mathlib.Core.Bool.{Bool, true, false}
+-- a base command works them out, another building forgets them, no other command changes them, and a walk without room works out none.
+-- 02, No. 4 and No. 10. Assumes nothing.
+use mathlib.Core.Path.{◌≡◌, refl, sym, ap, ap₂, ◌∙◌}
+use mathlib.Core.Bool.{Bool, true, false, ◌||◌, cond}
 use mathlib.Core.List.{List, [], ◌∷◌, ◌++◌}
 use Rattle.std.specs.Prelude.{Option, None, Some, option_map}
 use Prim.Native.Nat.{ℕ}
@@ -17,19 +18,22 @@ use Rattle.exact.specs.Fraction.{Fraction}
 use Rattle.coefficient.specs.Coefficient.{fraction}
 use Rattle.claims.specs.declared.Row.{Row}
 use Rattle.format.specs.declared.Command.{Command}
-use Rattle.format.specs.declared.Command.TheVariants.{Settings as settings, WallBase as wall_base, Storey as storey, Soil as soil}
+use Rattle.format.specs.Commands.{byte_of}
+use Rattle.format.specs.declared.Command.TheVariants.{Settings as settings, WallBase as wall_base, Storey as storey, Soil as soil, Building as building}
 use Rattle.layout.proofs.Numbers.{Bytes}
 use Rattle.context.specs.declared.State.{State}
 use Rattle.context.specs.declared.LatestWall.{LatestWall}
-use Rattle.context.specs.declared.LatestWall.TheVariants.{Given}
+use Rattle.context.specs.declared.LatestWall.TheVariants.{Missing, Given}
 use Rattle.context.specs.Context.{Context, nothing, given, absent}
-use Rattle.context.specs.Running.{room_for, start_state, running, wall_kept, next_state}
+use Rattle.context.specs.Running.{room_for, start_state, running, wall_kept, next_state, no_joints}
 use Rattle.context.proofs.Shown.{Shows, present}
 use Rattle.rows.specs.Rows.{words, rows_of, rows_with}
 use Rattle.rows.specs.Writing.{running_storey_row}
+use Rattle.rows.proofs.RowsSame.{or_first, or_second}
+use Rattle.job.specs.Faults.{is_building}
 use Rattle.job.specs.Placed.{Placed, context_after, placed_all, rows_at}
-use Rattle.job.specs.Earlier.{or_else, base_in, latest_settings, latest_base}
-use Rattle.job.specs.Walking.{state_through, joints_through, no_joints}
+use Rattle.job.specs.Earlier.{another_begun, or_else, base_in, latest_settings, latest_base}
+use Rattle.job.specs.Walking.{state_through, joints_through}
 use Rattle.job.specs.Reached.{reached, located}
 use Rattle.job.specs.LatestWall.{Carries, AtEveryPlace, AtEveryStorey}
 use Rattle.job.proofs.Reached.{reached_each, reached_placed}
@@ -40,13 +44,17 @@ use Rattle.job.proofs.Latest.{settings_left, base_left}
 
 -- ---- worked out once
 
--- the latest wall after a command, by the base that it gives
-abbrev wall_by : Bool → State → Option WallBase → LatestWall
-wall_by room t None = t.wall
-wall_by room t (Some b) = wall_kept t.settings room b
+-- the latest wall after a command, by the base that it gives; another building gives none
+abbrev held : Bool → State → LatestWall
+held begun t = cond begun Missing t.wall
 
-wall_next : (room : Bool) (t : State) (c : Command) → (next_state room t c).wall ≡ wall_by room t (base_in c)
-unfolding next_state
+abbrev wall_by : Bool → State → Bool → Option WallBase → LatestWall
+wall_by room t begun None = held begun t
+wall_by room t begun (Some b) = wall_kept t.settings room b
+
+wall_next : (room : Bool) (t : State) (c : Command) → (next_state room t c).wall ≡ wall_by room t (is_building (byte_of c)) (base_in c)
+unfolding next_state start_state
+wall_next room t building = refl
 wall_next room t (wall_base b) = refl
 wall_next room t (settings s) = refl
 wall_next room t (soil s) = refl
@@ -64,12 +72,14 @@ neither : {A : Type 0} (a b : Option A) → or_else a b ≡ None → (a ≡ None
 neither None b e = (refl, e)
 neither (Some a) b e = absurd cc
 
--- the commands up to the next base leave them, whatever they are
-pub values_kept : (room : Bool) (t : State) (ps : List Placed) → latest_base ps ≡ None → (state_through room t (located ps)).wall ≡ t.wall
-values_kept room t [] e = refl
-values_kept room t (p ∷ ps) e =
-    let (later, own) = neither (latest_base ps) (base_in p.command) e in
-    values_kept room (next_state room t p.command) ps later ∙ wall_next room t p.command ∙ ap (wall_by room t) own
+-- the commands up to the next base or the next building leave them, whatever they are
+pub values_kept : (room : Bool) (t : State) (ps : List Placed) → another_begun ps ≡ false → latest_base ps ≡ None → (state_through room t (located ps)).wall ≡ t.wall
+values_kept room t [] n e = refl
+values_kept room t (p ∷ ps) n e =
+    let more = or_first (another_begun ps) (is_building (byte_of p.command)) n in
+    let (later, own) = neither (latest_base ps) (base_in p.command) (rw more at e) in
+    values_kept room (next_state room t p.command) ps more later
+    ∙ wall_next room t p.command ∙ ap₂ (wall_by room t) (or_second (another_begun ps) (is_building (byte_of p.command)) n) own
 
 -- of the latest base among commands it is kept that one is given, and no values
 abbrev pub given_alone : LatestWall → Option WallBase → LatestWall
@@ -81,20 +91,24 @@ given_both w None own = refl
 given_both w (Some b) own = refl
 
 -- a walk without room works out none
-pub none_without_room : (t : State) (ps : List Placed) → (state_through false t (located ps)).wall ≡ given_alone t.wall (latest_base ps)
+pub none_without_room : (t : State) (ps : List Placed) → (state_through false t (located ps)).wall ≡ given_alone (held (another_begun ps) t) (latest_base ps)
 none_without_room t [] = refl
 none_without_room t (p ∷ ps) =
     none_without_room (next_state false t p.command) ps
-    ∙ ap (λ w. given_alone w (latest_base ps)) (wall_next false t p.command ∙ alone (base_in p.command))
-    ∙ given_both t.wall (latest_base ps) (base_in p.command)
+    ∙ ap (λ w. given_alone (cond (another_begun ps) Missing w) (latest_base ps)) (wall_next false t p.command ∙ alone (is_building (byte_of p.command)) (base_in p.command))
+    ∙ behind (another_begun ps) (is_building (byte_of p.command)) (latest_base ps) (base_in p.command)
   where
+    behind : (later first : Bool) (l g : Option WallBase) → given_alone (cond later Missing (given_alone (held first t) g)) l ≡ given_alone (held (later || first) t) (cond later l (or_else l g))
+    behind true first l g = refl
+    behind false first l g = given_both (held first t) l g
+
     unkept : (s : Option Settings) (b : WallBase) → wall_kept s false b ≡ Given
     unkept None b = refl
     unkept (Some s) b = refl
 
-    alone : (o : Option WallBase) → wall_by false t o ≡ given_alone t.wall o
-    alone None = refl
-    alone (Some b) = unkept t.settings b
+    alone : (begun : Bool) (o : Option WallBase) → wall_by false t begun o ≡ given_alone (held begun t) o
+    alone begun None = refl
+    alone begun (Some b) = unkept t.settings b
 
 -- ---- those of the latest base
 

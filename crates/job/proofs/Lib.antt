@@ -26,4 +26,5 @@ pub mod TwoWalls
 pub mod Refusals
 pub mod BlockTrial
 pub mod BasementTrial
+pub mod BuildingTrial
 pub mod BlocksKeep

@@ -13,11 +13,12 @@ use Rattle.blocks.specs.FileCommands.{FileCommand, one, block, storeys_from, com
 use Rattle.context.specs.declared.State.{State}
 use Rattle.context.specs.Context.{Context, next}
 use Rattle.context.specs.Running.{JointTable, next_state, next_joints}
+use Rattle.job.specs.declared.Counts.{Counts}
 use Rattle.job.specs.Faults.{after_command}
 use Rattle.job.specs.Placed.{Placed, place_each, Entry, entry_at, commands_in, placed_in, placed_all}
 use Rattle.job.specs.Walking.{state_through, joints_through}
 use Rattle.job.specs.Reached.{located, reached_from}
-use Rattle.job.proofs.PlacedCases.{weight_at, context_behind}
+use Rattle.job.proofs.PlacedCases.{counts_behind, context_behind}
 use Rattle.job.proofs.Faultless.{Chained}
 use Rattle.job.proofs.Reached.{none_first, reached_after, first_reached}
 use Rattle.job.proofs.Through.{AllFit, ids_given}
@@ -65,18 +66,18 @@ fit_front [] ds f = tt
 fit_front ((at, c) ∷ cs) ds (i, f) = (i, fit_front cs ds f)
 
 -- the ids of all commands reached are bytes
-pub reached_fit : (n : ℕ) (job : List ℕ) → Bytes job → (at count : ℕ) (h : Context) → AllFit (located (placed_all (reached_from n job at count h)))
+pub reached_fit : (n : ℕ) (job : List ℕ) → Bytes job → (at : ℕ) (counts : Counts) (h : Context) → AllFit (located (placed_all (reached_from n job at counts h)))
 unfolding reached_from
-reached_fit zero job b at count h = tt
-reached_fit (suc n) job b at count h = by (reached_fit n job b (after_command job at) (count + weight_at job at) (context_behind job at h)) (reached_from (suc n) job at count h) refl
+reached_fit zero job b at counts h = tt
+reached_fit (suc n) job b at counts h = by (reached_fit n job b (after_command job at) (counts_behind job at counts) (context_behind job at h)) (reached_from (suc n) job at counts h) refl
   where
-    by : AllFit (located (placed_all (reached_after n job at count h))) → (es : List Entry) → reached_from (suc n) job at count h ≡ es → AllFit (located (placed_all es))
+    by : AllFit (located (placed_all (reached_after n job at counts h))) → (es : List Entry) → reached_from (suc n) job at counts h ≡ es → AllFit (located (placed_all es))
     by ih [] q = tt
     by ih (e ∷ es) q =
-        let (g, s) = first_reached n job at count h e es q in
+        let (g, s) = first_reached n job at counts h e es q in
         subst (λ (xs : List Entry). AllFit (located (placed_all xs))) s
-        (subst AllFit (sym (located_more (entry_at job at h) (reached_after n job at count h)))
-        (fit_both (commands_in (entry_at job at h)) (located (placed_all (reached_after n job at count h))) (ids_given job at b) ih))
+        (subst AllFit (sym (located_more (entry_at job at h) (reached_after n job at counts h)))
+        (fit_both (commands_in (entry_at job at h)) (located (placed_all (reached_after n job at counts h))) (ids_given job at b) ih))
 
 -- ---- split at a placed command
 

@@ -42,20 +42,20 @@ block_misplaced byte g b = rw (eqb-true byte 11 b) (by g)
     by false = refl
 
 module _ (room : Bool) (job : List ℕ) (p : Place) (joints : JointTable) (h : Context) (b : Bytes job) (s : Shows room p.state joints h) where
-  one_same : is_block (byte_at job p.offset) ≡ false → fault_from job p joints ≡ fault_at job p.offset p.count h
+  one_same : is_block (byte_at job p.offset) ≡ false → fault_from job p joints ≡ fault_at job p.offset p.counts h
   unfolding command_fault command_tests
   one_same k =
       let after : p.offset + width_at job p.offset ≡ p.offset + 1 + operands_width (byte_at job p.offset) = omega (arith, width_one job p.offset k) in
       one_fault job p joints k
-      ∙ sym (command_fault_lem job p.offset p.count h k
+      ∙ sym (command_fault_lem job p.offset p.counts h k
       ∙ rw (k, or_false (known (byte_at job p.offset)), after, settings_given_lem room p.state joints h s, ← absent_same room p.state joints h s (command_at job p.offset) (ids_read job p.offset b)))
 
-  many_same : is_block (byte_at job p.offset) ≡ true → fault_from job p joints ≡ fault_at job p.offset p.count h
+  many_same : is_block (byte_at job p.offset) ≡ true → fault_from job p joints ≡ fault_at job p.offset p.counts h
   unfolding block_fault block_tests
   many_same k =
       let after : p.offset + width_at job p.offset ≡ p.offset + 2 + 24 * count_at job p.offset = omega (arith, width_block job p.offset k) in
       many_fault job p joints k
-      ∙ sym (block_fault_lem job p.offset p.count h k
+      ∙ sym (block_fault_lem job p.offset p.counts h k
       ∙ rw (
         block_misplaced (byte_at job p.offset) (given h.settings) k,
         k,
@@ -65,10 +65,10 @@ module _ (room : Bool) (job : List ℕ) (p : Place) (joints : JointTable) (h : C
         walled_lem room p.state joints h s,
       ))
 
-  pub fault_same : fault_from job p joints ≡ fault_at job p.offset p.count h
+  pub fault_same : fault_from job p joints ≡ fault_at job p.offset p.counts h
   fault_same = by (is_block (byte_at job p.offset)) refl
     where
-      by : (k : Bool) → is_block (byte_at job p.offset) ≡ k → fault_from job p joints ≡ fault_at job p.offset p.count h
+      by : (k : Bool) → is_block (byte_at job p.offset) ≡ k → fault_from job p joints ≡ fault_at job p.offset p.counts h
       by true e = many_same e
       by false e = one_same e
 
@@ -93,11 +93,11 @@ pub record Going (room : Bool) (n : ℕ) (job : List ℕ) (p : Place) (joints : 
   pub bytes : Bytes job
   pub shows : Shows room p.state joints h
   pub room_is : room_for (length memory) ≡ room
-  pub left : 4097 ≤ p.count + n
-  pub count : p.count ≤ 4096
+  pub left : 4097 ≤ p.counts.commands + n
+  pub commands : p.counts.commands ≤ 4096
   pub offset : p.offset ≤ length job
 
-going_on : (room : Bool) (n : ℕ) (job : List ℕ) (p : Place) (joints : JointTable) (memory : List ℤ) (h : Context) → Going room (suc n) job p joints memory h → Passed job p.offset p.count h → (byte_at job p.offset ≡ 0 → ⊥) →
+going_on : (room : Bool) (n : ℕ) (job : List ℕ) (p : Place) (joints : JointTable) (memory : List ℤ) (h : Context) → Going room (suc n) job p joints memory h → Passed job p.offset p.counts h → (byte_at job p.offset ≡ 0 → ⊥) →
     Going room n job (next_place room job p) (joints_through joints (commands_here job p)) (stored_all memory p.rows (rows_here room job p joints)) (context_behind job p.offset h)
 unfolding next_place rows_here
 going_on room n job p joints memory h g f z =
@@ -106,7 +106,7 @@ going_on room n job p joints memory h g f z =
       shows = shows_through room p.state joints h g.shows (commands_here job p) (ids_given job p.offset g.bytes) (f.chained z);
       room_is = ap room_for (stored_all_keeps memory p.rows (rows_through room p.state joints (commands_here job p)) (eights_through room p.state joints (commands_here job p))) ∙ g.room_is;
       left = omega (arith, g.left, f.some);
-      count = f.few z;
+      commands = f.few z;
       offset = f.whole;
     }
 
@@ -114,7 +114,7 @@ going_on room n job p joints memory h g f z =
 
 -- at a command without fault that is no end
 module _ (room : Bool) (job : List ℕ) (p : Place) (joints : JointTable) (memory : List ℤ) (h : Context) (n : ℕ) (g : Going room (suc n) job p joints memory h)
-    (e : fault_at job p.offset p.count h ≡ 0) (z : byte_at job p.offset ≡ 0 → ⊥) where
+    (e : fault_at job p.offset p.counts h ≡ 0) (z : byte_at job p.offset ≡ 0 → ⊥) where
   -- the command, what it leaves of the joints, and the words that its rows leave
   abbrev pub first : Entry
   first = entry_at job p.offset h
@@ -125,8 +125,8 @@ module _ (room : Bool) (job : List ℕ) (p : Place) (joints : JointTable) (memor
   abbrev pub memory_then : List ℤ
   memory_then = stored_all memory p.rows (all_rows (placed_in first))
 
-  without_fault : Passed job p.offset p.count h
-  without_fault = passed job p.offset p.count h e
+  without_fault : Passed job p.offset p.counts h
+  without_fault = passed job p.offset p.counts h e
 
   alike : stored_all memory p.rows (rows_here room job p joints) ≡ memory_then
   alike = rows_alike job p joints h g.bytes (without_fault.chained z) memory room g.room_is g.shows
@@ -135,7 +135,7 @@ module _ (room : Bool) (job : List ℕ) (p : Place) (joints : JointTable) (memor
   unfolding next_place
   behind =
       rw (
-        ← end_of_lem job p.offset p.count h e,
+        ← end_of_lem job p.offset p.counts h e,
         rows_counted room p.state joints h g.shows (commands_here job p) (ids_given job p.offset g.bytes) (without_fault.chained z),
       )
 

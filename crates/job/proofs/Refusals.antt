@@ -15,10 +15,11 @@ use Rattle.format.specs.Reading.{command_at}
 use Rattle.context.specs.Context.{Context, nothing, next, given, absent}
 use Rattle.rows.specs.Rows.{rows_of, rows_with}
 use Rattle.blocks.specs.FileCommands.{file_command_at, width_at}
-use Rattle.job.specs.Faults.{unknown, cut_short, too_many, misplaced, out_of_range, command_tests, tests_at}
+use Rattle.job.specs.Faults.{unknown, cut_short, too_many, seventeenth, misplaced, out_of_range, command_tests, tests_at}
 use Rattle.job.specs.Placed.{refused, listed_by, listed, placed_with, placed, all_rows}
 use Rattle.job.specs.Answers.{rows_answer, size_of}
 use Rattle.job.proofs.AcceptedBefore.{with7}
+use Rattle.job.proofs.Passing.{so_many}
 use Rattle.job.proofs.PlacedCases.{fault_at}
 
 -- ---- commands
@@ -39,7 +40,7 @@ abbrev pub joint : List ℕ
 joint = 0x02 ∷ 0x09 ∷ zeros 12
 
 -- 3,000 long: 29 bytes
-abbrev column : List ℕ
+abbrev pub column : List ℕ
 column = 0x03 ∷ 0x00 ∷ 0x00 ∷ 0x0b ∷ 0xb8 ∷ zeros 24
 
 -- 0 long
@@ -47,7 +48,7 @@ abbrev wrong_column : List ℕ
 wrong_column = 0x03 ∷ zeros 28
 
 -- between the joints 9 and 10: 23 bytes
-abbrev hingeless : List ℕ
+abbrev pub hingeless : List ℕ
 hingeless = 0x05 ∷ 0x00 ∷ 0x00 ∷ 0x0b ∷ 0xb8 ∷ 0x09 ∷ 0x0a ∷ zeros 16
 
 -- 4,096 long, 256 thick, no strengths: 25 bytes
@@ -63,7 +64,7 @@ abbrev pub wrong_storey : List ℕ
 wrong_storey = 0x07 ∷ zeros 11 ++ 0x02 ∷ zeros 3 ++ 0x01 ∷ zeros 8
 
 -- 1,000 by 1,000: 58 bytes
-abbrev footing : List ℕ
+abbrev pub footing : List ℕ
 footing = 0x09 ∷ 0x00 ∷ 0x00 ∷ 0x03 ∷ 0xe8 ∷ 0x00 ∷ 0x00 ∷ 0x03 ∷ 0xe8 ∷ zeros 49
 
 abbrev pub finish : List ℕ
@@ -94,7 +95,7 @@ pub record Numbers : Type 0 where
 
 pub numbers : Numbers
 unfolding
-    size_of all_rows rows_of rows_with placed listed listed_by tests_at command_tests width_at file_command_at too_many misplaced known known_in forms_of forms_in operands_width width_of_all width command_at command_of read_operands number number_after in_range all_in_range form_in_range
+    size_of all_rows rows_of rows_with placed listed listed_by tests_at command_tests width_at file_command_at too_many seventeenth misplaced known known_in forms_of forms_in operands_width width_of_all width command_at command_of read_operands number number_after in_range all_in_range form_in_range
     related within within_signed signed32 bits32 next absent
 numbers =
     record {
@@ -125,7 +126,7 @@ Both first second job number offset = (first ≡ true) × (second ≡ true) × (
 
 -- the fault of a 4,097th command that has another fault too
 abbrev Last : Bool → List ℕ → Context → ℕ → Type 0
-Last other command h number = (too_many (byte_at command 0) 4096 ≡ true) × (other ≡ true) × (fault_at command 0 4096 h ≡ number)
+Last other command h number = (too_many (byte_at command 0) 4096 ≡ true) × (other ≡ true) × (fault_at command 0 (so_many 1 4096) h ≡ number)
 
 -- what holds after settings
 abbrev pub begun : Context
@@ -165,16 +166,16 @@ pub record OrderOfTrial : Type 0 where
   -- a 4,097th command: 2 and 1 before 8; 8, not for the one before it nor for the end; 8 before 4, 5, 6
   pub unknown_many : Last (unknown unknown_first 0) unknown_first begun 2
   pub cut_many : Last (cut_short column_cut 0) column_cut begun 1
-  pub many : fault_at column 0 4096 begun ≡ 8
-  pub many_before : fault_at column 0 4095 begun ≡ 0
-  pub end_not_counted : fault_at finish 0 4096 begun ≡ 0
+  pub many : fault_at column 0 (so_many 1 4096) begun ≡ 8
+  pub many_before : fault_at column 0 (so_many 1 4095) begun ≡ 0
+  pub end_not_counted : fault_at finish 0 (so_many 1 4096) begun ≡ 0
   pub many_misplaced : Last (misplaced (byte_at settings 0) (given begun.settings)) settings begun 8
   pub many_range : Last (out_of_range (command_at wrong_column 0)) wrong_column begun 8
   pub many_absent : Last (absent begun (command_at storey 0)) storey begun 8
 
 pub order_of_trial : OrderOfTrial
 unfolding
-    placed listed listed_by tests_at command_tests width_at file_command_at too_many misplaced known known_in forms_of forms_in operands_width width_of_all width command_at command_of read_operands number number_after in_range all_in_range form_in_range
+    placed listed listed_by tests_at command_tests width_at file_command_at too_many seventeenth misplaced known known_in forms_of forms_in operands_width width_of_all width command_at command_of read_operands number number_after in_range all_in_range form_in_range
     related within within_signed signed32 bits32 next absent
 order_of_trial =
     record {

@@ -1,19 +1,21 @@
 -- One step of the walk over plain values: what stops it, and how it goes on. Assumes nothing.
 use mathlib.Core.Path.{◌≡◌, refl, sym, ap, ◌∙◌}
-use mathlib.Core.Bool.{Bool, true, false, not}
+use mathlib.Core.Bool.{Bool, true, false, not, cond}
 use mathlib.Core.List.{List, [], ◌∷◌, ◌++◌}
 use Prim.Native.Nat.{ℕ, zero, suc, ◌+◌, ◌-◌, ◌*◌, ◌≤◌, ◌<◌}
 use native.Mathlib.Omega.{arith}
 use lib.Dec.{lit<, leb, ltb}
 use lib.IntN.{ℤ}
 use lib.ListN.{length}
-use borrow.Author.Tests.{le-leb, lt-leb, lt-ltb, le-ltb, ne_eqb, ltb-false}
+use borrow.Author.Tests.{le-leb, lt-leb, lt-ltb, le-ltb, ne_eqb, ltb-false, leb-false, eqb-true}
 use Rattle.std.specs.Prelude.{Some}
-use Rattle.layout.specs.Layouts.{known, operands_width}
+use Rattle.layout.specs.Layouts.{known, known_in, forms_of, forms_in, width_of_all, operands_width}
 use Rattle.layout.specs.Operands.{byte_at}
 use Rattle.format.specs.declared.Command.{Command}
-use Rattle.format.specs.Commands.{in_range}
+use Rattle.format.specs.declared.Command.TheVariants.{Building as building}
+use Rattle.format.specs.Commands.{command_of, in_range}
 use Rattle.format.specs.Reading.{command_at}
+use Rattle.format.proofs.RangeTest.{building_in_range}
 use Rattle.blocks.specs.Sets.{is_block, count_at, count_in_range, sets_of, all_in_range, operand_named as set_named}
 use Rattle.blocks.specs.FileCommands.{FileCommand, one, file_command_at, file_operand_at_fault}
 use Rattle.blocks.proofs.Sets.{storeys_length, set_found}
@@ -21,12 +23,13 @@ use Rattle.blocks.proofs.FileCommands.{at_one, at_block}
 use Rattle.context.specs.Context.{given}
 use Rattle.context.specs.Running.{JointTable, walled, absent_in}
 use Rattle.rows.specs.Writing.{stored_all}
+use Rattle.job.specs.declared.Counts.{Counts}
 use Rattle.job.specs.declared.Place.{Place}
 use Rattle.job.specs.declared.Refusal.{Refusal}
-use Rattle.job.specs.declared.Refusal.TheVariants.{CutShort, Unknown, BytesAfterEnd, MisplacedSettings, OutOfRange, Absent, TooMany}
+use Rattle.job.specs.declared.Refusal.TheVariants.{CutShort, Unknown, BytesAfterEnd, MisplacedSettings, OutOfRange, Absent, TooMany, TooManyBuildings}
 use Rattle.job.specs.Refusals.{number_of, operand_of}
-use Rattle.job.specs.Faults.{too_many, misplaced, passes_limit, first_of, operand_named}
-use Rattle.job.specs.Walking.{early_tests, early_fault, late_tests, late_fault, command_fault, block_fault, fault_from, WalkAnswer, Refused, Finished, Paused, Final, commands_here, joints_through, rows_here, next_place, outcome, walk_from}
+use Rattle.job.specs.Faults.{is_building, too_many, seventeenth, misplaced, passes_limit, first_of, operand_named}
+use Rattle.job.specs.Walking.{early_tests, early_fault, late_tests, late_fault, command_fault, building_fault, block_fault, fault_from, WalkAnswer, Refused, Finished, Paused, Final, commands_here, joints_through, rows_here, next_place, outcome, walk_from}
 
 abbrev pub stop : JointTable → List ℤ → WalkAnswer → Final
 stop joints memory a = record { answer = a; joints = joints; memory = memory }
@@ -98,16 +101,17 @@ not_named n c d = rw (ne_eqb n 5 d)
 -- ---- a command by itself: the tests that need the byte alone
 
 -- none of them is 5
-pub early_named : (bytes at byte count : ℕ) (given : Bool) (c : FileCommand) (n : ℕ) → early_fault bytes at byte count given ≡ n → operand_named n c ≡ 0
+pub early_named : (bytes at byte : ℕ) (counts : Counts) (given : Bool) (c : FileCommand) (n : ℕ) → early_fault bytes at byte counts given ≡ n → operand_named n c ≡ 0
 unfolding early_fault
-early_named bytes at byte count given c n e = not_named n c (λ z. never (not (known byte)) (ltb bytes _) (too_many byte count) (misplaced byte given) (e ∙ z))
+early_named bytes at byte counts given c n e = not_named n c (λ z. never (not (known byte)) (ltb bytes _) (too_many byte counts.commands) (seventeenth byte counts.buildings) (misplaced byte given) (e ∙ z))
   where
-    never : (k s m g : Bool) → first_of ((k, 2) ∷ (s, 1) ∷ (m, 8) ∷ (g, 4) ∷ []) ≡ 5 → ⊥
-    never true s m g e = omega arith
-    never false true m g e = omega arith
-    never false false true g e = omega arith
-    never false false false true e = omega arith
-    never false false false false e = omega arith
+    never : (k s m b g : Bool) → first_of ((k, 2) ∷ (s, 1) ∷ (m, 8) ∷ (b, 13) ∷ (g, 4) ∷ []) ≡ 5 → ⊥
+    never true s m b g e = omega arith
+    never false true m b g e = omega arith
+    never false false true b g e = omega arith
+    never false false false true g e = omega arith
+    never false false false false true e = omega arith
+    never false false false false false e = omega arith
 
 pub some_number : (r : Refusal) → 0 < number_of r
 some_number CutShort = lit< tt
@@ -117,6 +121,7 @@ some_number MisplacedSettings = lit< tt
 some_number (OutOfRange operand) = lit< tt
 some_number Absent = lit< tt
 some_number TooMany = lit< tt
+some_number TooManyBuildings = lit< tt
 
 -- where none of the first finds a fault, the fault is that of the others
 behind : (ts us : List (Bool × ℕ)) → Found ts → first_of ts ≡ 0 → first_of (ts ++ us) ≡ first_of us
@@ -129,19 +134,19 @@ module _ (job : List ℕ) (p : Place) (joints : JointTable) where
   here = file_command_at job p.offset
 
   abbrev pub early_here : ℕ
-  early_here = early_fault (length job) p.offset (byte_at job p.offset) p.count (given p.state.settings)
+  early_here = early_fault (length job) p.offset (byte_at job p.offset) p.counts (given p.state.settings)
 
   early_first : (n : ℕ) → 0 < n → n ≡ early_here → n ≡ command_fault job p joints
   unfolding early_fault command_fault
   early_first zero l e = absurd (omega arith)
   early_first (suc n) l e =
-      sym (first_front (early_tests (length job) p.offset (byte_at job p.offset) p.count (given p.state.settings)) (late_tests p.state joints (command_at job p.offset)) n (sym e))
+      sym (first_front (early_tests (length job) p.offset (byte_at job p.offset) p.counts (given p.state.settings)) (late_tests p.state joints (command_at job p.offset)) n (sym e))
 
   -- the number of a refusal that is due by them, and the operand that it names
   pub early_due : (r : Refusal) → number_of r ≡ early_here → operand_of r ≡ 0 → (number_of r ≡ command_fault job p joints) × (operand_of r ≡ operand_named (number_of r) here)
   early_due r e o = (
     early_first (number_of r) (some_number r) e,
-    o ∙ sym (early_named (length job) p.offset (byte_at job p.offset) p.count (given p.state.settings) here (number_of r) (sym e)),
+    o ∙ sym (early_named (length job) p.offset (byte_at job p.offset) p.counts (given p.state.settings) here (number_of r) (sym e)),
   )
 
   -- the other tests, behind these
@@ -150,7 +155,7 @@ module _ (job : List ℕ) (p : Place) (joints : JointTable) where
     unfolding early_fault late_fault command_fault
     late_is =
         rw q (
-        sym (behind (early_tests (length job) p.offset (byte_at job p.offset) p.count (given p.state.settings)) (late_tests p.state joints (command_at job p.offset)) (no_zero 1, (no_zero 0, (no_zero 7, (no_zero 3, tt)))) (sym z))
+        sym (behind (early_tests (length job) p.offset (byte_at job p.offset) p.counts (given p.state.settings)) (late_tests p.state joints (command_at job p.offset)) (no_zero 1, (no_zero 0, (no_zero 7, (no_zero 12, (no_zero 3, tt))))) (sym z))
         )
 
     pub late_due : is_block (byte_at job p.offset) ≡ false → (r : Refusal) → number_of r ≡ late_fault p.state joints c → operand_of r ≡ operand_named (number_of r) (one c) →
@@ -166,23 +171,78 @@ module _ (job : List ℕ) (p : Place) (joints : JointTable) where
 pub record CommandPassed (job : List ℕ) (p : Place) : Type 0 where
   pub known_byte : known (byte_at job p.offset) ≡ true
   pub whole : p.offset + 1 + operands_width (byte_at job p.offset) ≤ length job
-  pub few : too_many (byte_at job p.offset) p.count ≡ false
+  pub few : too_many (byte_at job p.offset) p.counts.commands ≡ false
+  pub buildings : seventeenth (byte_at job p.offset) p.counts.buildings ≡ false
   pub ranged : in_range (command_at job p.offset) ≡ true
 
 pub command_passed : (job : List ℕ) (p : Place) (joints : JointTable) → command_fault job p joints ≡ 0 → CommandPassed job p
 unfolding command_fault
 command_passed job p joints =
-    by (known (byte_at job p.offset)) (ltb (length job) (p.offset + 1 + operands_width (byte_at job p.offset))) (too_many (byte_at job p.offset) p.count) (misplaced (byte_at job p.offset) (given p.state.settings)) (in_range (command_at job p.offset)) (absent_in p.state joints (command_at job p.offset))
-    refl refl refl refl
+    by (known (byte_at job p.offset)) (ltb (length job) (p.offset + 1 + operands_width (byte_at job p.offset))) (too_many (byte_at job p.offset) p.counts.commands) (seventeenth (byte_at job p.offset) p.counts.buildings) (misplaced (byte_at job p.offset) (given p.state.settings)) (in_range (command_at job p.offset)) (absent_in p.state joints (command_at job p.offset))
+    refl refl refl refl refl
   where
-    by : (k s m g r a : Bool) → known (byte_at job p.offset) ≡ k → ltb (length job) (p.offset + 1 + operands_width (byte_at job p.offset)) ≡ s → too_many (byte_at job p.offset) p.count ≡ m → in_range (command_at job p.offset) ≡ r →
-        first_of ((not k, 2) ∷ (s, 1) ∷ (m, 8) ∷ (g, 4) ∷ (not r, 5) ∷ (a, 6) ∷ []) ≡ 0 → CommandPassed job p
-    by false s m g r a e1 e2 e3 e4 z = absurd (no_zero 1 z)
-    by true true m g r a e1 e2 e3 e4 z = absurd (no_zero 0 z)
-    by true false true g r a e1 e2 e3 e4 z = absurd (no_zero 7 z)
-    by true false false true r a e1 e2 e3 e4 z = absurd (no_zero 3 z)
-    by true false false false false a e1 e2 e3 e4 z = absurd (no_zero 4 z)
-    by true false false false true a e1 e2 e3 e4 z = record { known_byte = e1; whole = ltb-false (length job) (p.offset + 1 + operands_width (byte_at job p.offset)) e2; few = e3; ranged = e4 }
+    by : (k s m b g r a : Bool) → known (byte_at job p.offset) ≡ k → ltb (length job) (p.offset + 1 + operands_width (byte_at job p.offset)) ≡ s → too_many (byte_at job p.offset) p.counts.commands ≡ m → seventeenth (byte_at job p.offset) p.counts.buildings ≡ b → in_range (command_at job p.offset) ≡ r →
+        first_of ((not k, 2) ∷ (s, 1) ∷ (m, 8) ∷ (b, 13) ∷ (g, 4) ∷ (not r, 5) ∷ (a, 6) ∷ []) ≡ 0 → CommandPassed job p
+    by false s m b g r a e1 e2 e3 e4 e5 z = absurd (no_zero 1 z)
+    by true true m b g r a e1 e2 e3 e4 e5 z = absurd (no_zero 0 z)
+    by true false true b g r a e1 e2 e3 e4 e5 z = absurd (no_zero 7 z)
+    by true false false true g r a e1 e2 e3 e4 e5 z = absurd (no_zero 12 z)
+    by true false false false true r a e1 e2 e3 e4 e5 z = absurd (no_zero 3 z)
+    by true false false false false false a e1 e2 e3 e4 e5 z = absurd (no_zero 4 z)
+    by true false false false false true a e1 e2 e3 e4 e5 z = record { known_byte = e1; whole = ltb-false (length job) (p.offset + 1 + operands_width (byte_at job p.offset)) e2; few = e3; buildings = e4; ranged = e5 }
+
+-- ---- another building
+
+-- the tests of a command by itself come down to its own there
+module _ (job : List ℕ) (p : Place) (joints : JointTable) (l : p.offset < length job) (b : is_building (byte_at job p.offset) ≡ true) where
+  building_byte : byte_at job p.offset ≡ 13
+  building_byte = eqb-true (byte_at job p.offset) 13 b
+
+  pub building_read : command_at job p.offset ≡ building
+  unfolding command_at command_of
+  building_read = rw building_byte
+
+  pub no_sets : is_block (byte_at job p.offset) ≡ false
+  no_sets = rw building_byte
+
+  no_operands : operands_width 13 ≡ 0
+  unfolding operands_width width_of_all forms_of forms_in
+  no_operands = refl
+
+  pub building_tests : fault_from job p joints ≡ building_fault p
+  unfolding command_fault building_fault known known_in too_many seventeenth misplaced absent_in
+  building_tests =
+      let whole : ltb (length job) (p.offset + 1 + operands_width 13) ≡ false = le-ltb (length job) (p.offset + 1 + operands_width 13) (omega (arith, no_operands)) in
+      one_fault job p joints no_sets ∙ rw (building_byte, whole, building_read, building_in_range) (by (leb 4096 p.counts.commands) (leb 16 p.counts.buildings) (given p.state.settings))
+    where
+      by : (m b g : Bool) → first_of ((false, 2) ∷ (false, 1) ∷ (m, 8) ∷ (b, 13) ∷ (cond g false true, 4) ∷ (false, 5) ∷ (false, 6) ∷ []) ≡ first_of ((m, 8) ∷ (b, 13) ∷ (not g, 4) ∷ [])
+      by m b true = refl
+      by m b false = refl
+
+-- its tests have passed
+pub record BuildingPassed (p : Place) : Type 0 where
+  pub few : p.counts.commands < 4096
+  pub buildings : p.counts.buildings < 16
+
+pub building_passed : (p : Place) → building_fault p ≡ 0 → BuildingPassed p
+unfolding building_fault
+building_passed p = by (leb 4096 p.counts.commands) (leb 16 p.counts.buildings) (given p.state.settings) refl refl
+  where
+    by : (m b g : Bool) → leb 4096 p.counts.commands ≡ m → leb 16 p.counts.buildings ≡ b → first_of ((m, 8) ∷ (b, 13) ∷ (not g, 4) ∷ []) ≡ 0 → BuildingPassed p
+    by true b g e1 e2 z = absurd (no_zero 7 z)
+    by false true g e1 e2 z = absurd (no_zero 12 z)
+    by false false g e1 e2 z = record { few = leb-false 4096 p.counts.commands e1; buildings = leb-false 16 p.counts.buildings e2 }
+
+-- and none of them is 5
+pub building_named : (p : Place) (c : FileCommand) (n : ℕ) → building_fault p ≡ n → operand_named n c ≡ 0
+unfolding building_fault
+building_named p c n e = not_named n c (λ z. never (leb 4096 p.counts.commands) (leb 16 p.counts.buildings) (given p.state.settings) (e ∙ z))
+  where
+    never : (m b g : Bool) → first_of ((m, 8) ∷ (b, 13) ∷ (not g, 4) ∷ []) ≡ 5 → ⊥
+    never true b g e = omega arith
+    never false true g e = omega arith
+    never false false true e = omega arith
+    never false false false e = omega arith
 
 -- ---- a block
 
@@ -209,15 +269,15 @@ module _ (job : List ℕ) (at : ℕ) (b : is_block (byte_at job at) ≡ true) wh
 pub record BlockPassed (job : List ℕ) (p : Place) : Type 0 where
   pub count : count_in_range (count_at job p.offset) ≡ true
   pub whole : p.offset + 2 + 24 * count_at job p.offset ≤ length job
-  pub few : p.count + count_at job p.offset ≤ 4096
+  pub few : p.counts.commands + count_at job p.offset ≤ 4096
   pub ranged : all_in_range (sets_of job p.offset) ≡ true
 
 pub block_passed : (job : List ℕ) (p : Place) → block_fault job p ≡ 0 → BlockPassed job p
 unfolding block_fault passes_limit
 block_passed job p =
-    by (leb (length job) (p.offset + 1)) (count_in_range (count_at job p.offset)) (ltb (length job) (p.offset + 2 + 24 * count_at job p.offset)) (ltb 4096 (p.count + count_at job p.offset)) (given p.state.settings) (walled p.state.wall) (all_in_range (sets_of job p.offset)) refl refl refl refl
+    by (leb (length job) (p.offset + 1)) (count_in_range (count_at job p.offset)) (ltb (length job) (p.offset + 2 + 24 * count_at job p.offset)) (ltb 4096 (p.counts.commands + count_at job p.offset)) (given p.state.settings) (walled p.state.wall) (all_in_range (sets_of job p.offset)) refl refl refl refl
   where
-    by : (n i c m g w r : Bool) → count_in_range (count_at job p.offset) ≡ i → ltb (length job) (p.offset + 2 + 24 * count_at job p.offset) ≡ c → ltb 4096 (p.count + count_at job p.offset) ≡ m → all_in_range (sets_of job p.offset) ≡ r →
+    by : (n i c m g w r : Bool) → count_in_range (count_at job p.offset) ≡ i → ltb (length job) (p.offset + 2 + 24 * count_at job p.offset) ≡ c → ltb 4096 (p.counts.commands + count_at job p.offset) ≡ m → all_in_range (sets_of job p.offset) ≡ r →
         first_of ((n, 1) ∷ (not i, 5) ∷ (c, 1) ∷ (m, 8) ∷ (not g, 4) ∷ (not w, 6) ∷ (not r, 5) ∷ []) ≡ 0 → BlockPassed job p
     by true i c m g w r e1 e2 e3 e4 z = absurd (no_zero 0 z)
     by false false c m g w r e1 e2 e3 e4 z = absurd (no_zero 4 z)
@@ -230,6 +290,6 @@ block_passed job p =
         record {
           count = e1;
           whole = ltb-false (length job) (p.offset + 2 + 24 * count_at job p.offset) e2;
-          few = ltb-false 4096 (p.count + count_at job p.offset) e3;
+          few = ltb-false 4096 (p.counts.commands + count_at job p.offset) e3;
           ranged = e4;
         }

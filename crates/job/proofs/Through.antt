@@ -47,7 +47,7 @@ ids_fit : (byte : ℕ) (v : ℕ → ℕ) → Fit byte v → IdsFit (command_of b
 unfolding command_of forms_of forms_in width
 ids_fit byte v =
     each_byte (λ b. Fit b v → IdsFit (command_of b v)) (λ f. tt) (λ f. tt) (λ f. f 0 (lit< tt)) (λ f. tt) (λ f. tt) (λ f. (f 1 (lit< tt), f 2 (lit< tt))) (λ f. tt) (λ f. tt) (λ f. tt) (λ f. tt) (λ f. tt)
-    (λ f. f 1 (lit< tt)) (λ b h f. subst IdsFit (sym (command_other b v h)) tt) byte
+    (λ f. f 1 (lit< tt)) (λ f. tt) (λ b h f. subst IdsFit (sym (command_other b v h)) tt) byte
 
 pub ids_read : (job : List ℕ) (offset : ℕ) → Bytes job → IdsFit (command_at job offset)
 unfolding command_at

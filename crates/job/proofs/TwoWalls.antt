@@ -22,7 +22,7 @@ use Rattle.format.specs.Reading.{command_at}
 use Rattle.context.specs.Context.{next, absent}
 use Rattle.context.specs.Running.{start_state, next_state}
 use Rattle.blocks.specs.FileCommands.{file_command_at, width_at}
-use Rattle.job.specs.Faults.{too_many, misplaced, command_tests, tests_at}
+use Rattle.job.specs.Faults.{too_many, seventeenth, misplaced, command_tests, tests_at}
 use Rattle.job.specs.Placed.{Placed, placed_all, refused, listed_by, listed, placed}
 use Rattle.job.specs.Reached.{reached_from, reached}
 use Rattle.job.specs.LatestWall.{wall_after}
@@ -74,7 +74,7 @@ pub record TwoWalls : Type 0 where
   pub at_fault : carried 7 ≡ carried 6
 
 pub two_walls : TwoWalls
-unfolding up smaller coefficient_of cap_governs wall_of within within_signed number number_after signed32 bits32 width form_in_range known known_in forms_of forms_in width_of_all operands_width read_operands command_of in_range all_in_range related command_at next absent start_state next_state too_many misplaced tests_at command_tests width_at file_command_at listed_by listed placed reached_from reached
+unfolding up smaller coefficient_of cap_governs wall_of within within_signed number number_after signed32 bits32 width form_in_range known known_in forms_of forms_in width_of_all operands_width read_operands command_of in_range all_in_range related command_at next absent start_state next_state too_many seventeenth misplaced tests_at command_tests width_at file_command_at listed_by listed placed reached_from reached
 two_walls =
     record {
       stopped = refl;

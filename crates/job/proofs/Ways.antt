@@ -1,36 +1,51 @@
--- The ways out of the walk, and the ways on, over the values that the code holds at a command of the file: one by itself, and a block.
+-- The ways out of the walk, and the ways on, over the values that the code holds at a command of the file: one by itself, another
+-- building, and a block.
 -- Assumes nothing.
-use mathlib.Core.Path.{◌≡◌, sym, ap, ◌∙◌}
+use mathlib.Core.Path.{◌≡◌, sym, ap, ◌∙◌, subst}
 use mathlib.Core.Bool.{Bool, true, false}
 use mathlib.Core.List.{List, [], ◌∷◌, map, append-nil}
 use Prim.Native.Nat.{ℕ, zero, suc, ◌+◌, ◌-◌, ◌*◌, ◌/◌, ◌≤◌, ◌<◌}
 use native.Mathlib.Omega.{arith}
+use lib.Dec.{eqb}
 use lib.IntN.{ℤ}
-use lib.ListN.{length}
+use lib.ListN.{length, length-map}
 use Rattle.std.specs.Prelude.{slice_range}
 use borrow.Author.Tests.{eqb-true}
 use Rattle.layout.specs.Layouts.{operands_width}
 use Rattle.layout.specs.Operands.{byte_at}
+use Rattle.layout.proofs.Widths.{widths}
 use Rattle.format.specs.declared.Command.{Command}
+use Rattle.format.specs.declared.Command.TheVariants.{Storey as storey, Building as building}
 use Rattle.format.specs.Commands.{byte_of, in_range}
 use Rattle.format.specs.Reading.{command_at}
+use Rattle.format.proofs.CommandRead.{byte_read}
+use Rattle.format.proofs.RangeTest.{building_in_range}
 use Rattle.blocks.specs.Sets.{is_block, count_at, sets_of, storeys_in}
-use Rattle.blocks.specs.FileCommands.{one, file_command_at, storeys_from, commands_from}
+use Rattle.blocks.specs.FileCommands.{FileCommand, one, file_command_at, storeys_from, commands_from}
 use Rattle.blocks.proofs.Sets.{storeys_length}
-use Rattle.blocks.proofs.FileCommands.{at_one, at_block, width_one, width_block, storeys_many}
-use Rattle.context.specs.Running.{JointTable, running, next_state, next_joints}
+use Rattle.blocks.proofs.FileCommands.{at_one, at_block, width_one, width_block}
+use Rattle.context.specs.Running.{JointTable, no_joints, running, next_state, next_joints}
 use Rattle.rows.specs.Rows.{row_count, words}
 use Rattle.rows.specs.Writing.{rows_from, set_rows_running, stored_all}
 use Rattle.job.specs.declared.Place.{Place}
-use Rattle.job.specs.Faults.{after_command, operand_named}
+use Rattle.job.specs.Counts.{counted}
+use Rattle.job.specs.Faults.{is_building, seventeenth, after_command, operand_named}
 use Rattle.job.specs.declared.Refusal.{Refusal}
 use Rattle.job.specs.Refusals.{number_of, operand_of}
-use Rattle.job.specs.Walking.{Refused, Finished, Paused, Final, late_fault, command_fault, block_fault, fault_from, outcome, commands_here, joints_through, row_counts, rows_through, rows_here, next_place}
-use Rattle.job.proofs.Faultless.{count_below}
+use Rattle.job.specs.Walking.{Refused, Finished, Paused, Final, late_fault, command_fault, building_fault, behind_building, block_fault, fault_from, outcome, commands_here, joints_through, row_counts, rows_through, rows_here, next_place}
+use Rattle.job.proofs.Faultless.{count_below, begun_few}
+use Rattle.job.proofs.Passing.{so_many}
 use Rattle.job.proofs.ReadHere.{sets_width, sets_here}
-use Rattle.job.proofs.Steps.{stop, onward, walk_none, walk_step, no_end, faulty, more_bytes, finished, some_number, early_here, early_due, late_is, late_due, CommandPassed, command_passed, one_fault, many_fault, BlockPassed, block_passed}
+use Rattle.job.proofs.Steps.{stop, onward, walk_none, walk_step, no_end, faulty, more_bytes, finished, some_number, early_here, early_due, late_is, late_due, CommandPassed, command_passed, building_read, no_sets, building_tests, BuildingPassed, building_passed, building_named, one_fault, many_fault, BlockPassed, block_passed}
 use Rattle.job.proofs.Through.{all_in_storeys, state_kept, joints_kept, storeys_counted, set_rows_through}
-use Rattle.job.proofs.Stands.{Stands, moved}
+use Rattle.job.proofs.Stands.{Within, Stands, moved}
+
+-- a byte above 0 is no end's
+no_end_there : (byte k : ℕ) → eqb byte (suc k) ≡ true → byte ≡ 0 → ⊥
+no_end_there byte k b z = by (eqb-true byte (suc k) b)
+  where
+    by : byte ≡ suc k → ⊥
+    by e = omega (arith, e, z)
 
 -- ---- the commands at a place
 
@@ -40,9 +55,6 @@ module _ (job : List ℕ) (p : Place) where
 
   here_block : is_block (byte_at job p.offset) ≡ true → commands_here job p ≡ storeys_from (p.offset + 2) (sets_of job p.offset)
   here_block b = ap (commands_from p.offset) (at_block job p.offset b)
-
-  block_many : is_block (byte_at job p.offset) ≡ true → length (commands_here job p) ≡ count_at job p.offset
-  block_many b = ap length (here_block b) ∙ storeys_many (p.offset + 2) (sets_of job p.offset) ∙ storeys_length (count_at job p.offset) job (p.offset + 2)
 
 module _ {room : Bool} {whole : Final} {job : List ℕ} {rows₀ : List ℤ} {joints : JointTable} {rows : List ℤ} {p : Place} {left : ℕ} (s : Stands room whole job rows₀ joints rows p left) where
   abbrev rest : Final
@@ -89,6 +101,10 @@ module _ {room : Bool} {whole : Final} {job : List ℕ} {rows₀ : List ℤ} {jo
       pub ranged : in_range command ≡ true
       ranged = rw e passed.ranged
 
+      -- and it begins no building
+      pub single : is_building (byte_at job p.offset) ≡ false → is_building (byte_of command) ≡ false
+      single g = rw (e, byte_read job p.offset passed.known_byte) g
+
       pub bytes_after : byte_at job p.offset ≡ 0 → p.offset + 1 < length job → whole ≡ stop joints rows (Refused 3 (p.offset + 1) 0)
       bytes_after q m = stepped l _ (more_bytes job p joints rows rest h no_fault q m)
 
@@ -97,11 +113,21 @@ module _ {room : Bool} {whole : Final} {job : List ℕ} {rows₀ : List ℤ} {jo
 
       -- what the command leaves
       module _ (joints' : JointTable) (rows' : List ℤ) (place' : Place) {behind : ℕ} (w : behind ≡ p.offset + 1 + operands_width (byte_at job p.offset))
-          (e₁ : place' ≡ record { offset = behind; count = p.count + 1; rows = p.rows + row_count command; state = next_state room p.state command })
+          (e₁ : place' ≡ record { offset = behind; counts = counted p.counts (one command); rows = p.rows + row_count command; state = next_state room p.state command })
           (e₂ : joints' ≡ next_joints joints command)
           (e₃ : rows' ≡ stored_all rows p.rows (map (words p.offset (byte_of command)) (rows_from place'.state joints' command))) where
+        given_one : one command ≡ file_command_at job p.offset
+        given_one = ap one e ∙ sym (at_one job p.offset b)
+
         one_here : commands_here job p ≡ (p.offset, command) ∷ []
         one_here = rw e (here_one job p b)
+
+        within : (byte_at job p.offset ≡ 0 → ⊥) → Within (counted p.counts (file_command_at job p.offset))
+        within y =
+            let c = command_at job p.offset in
+            let k : byte_of c ≡ byte_at job p.offset = byte_read job p.offset passed.known_byte in
+            subst (λ (d : FileCommand). Within (counted p.counts d)) (sym (at_one job p.offset b))
+            (omega (arith, count_below (byte_at job p.offset) p.counts.commands y passed.few), begun_few (byte_of c) p.counts.buildings s.asks.buildings (ap (λ (x : ℕ). seventeenth x p.counts.buildings) k ∙ passed.buildings))
 
         own : map (words p.offset (byte_of command)) (rows_from place'.state joints' command) ≡ rows_here room job p joints
         unfolding rows_here rows_through
@@ -112,14 +138,55 @@ module _ {room : Bool} {whole : Final} {job : List ℕ} {rows₀ : List ℤ} {jo
         place =
             let n : p.rows + row_count command ≡ p.rows + row_counts (commands_here job p) = omega (arith, ap row_counts one_here) in
             let o : behind ≡ after_command job p.offset = omega (arith, w, width_one job p.offset b) in
-            e₁ ∙ rw (n, o, one_here)
+            let k : counted p.counts (one command) ≡ counted p.counts (file_command_at job p.offset) = ap (counted p.counts) given_one in
+            e₁ ∙ rw (n, o, k, one_here)
 
         pub on : (byte_at job p.offset ≡ 0 → ⊥) → Stands room whole job rows₀ joints' rows' place' (left - 1)
         on y =
             moved room whole job rows₀ joints rows p left s l h no_fault y
-            (omega (arith, ap length one_here, count_below (byte_at job p.offset) p.count y passed.few))
+            (within y)
             (omega (arith, passed.whole, width_one job p.offset b)) (rw one_here (ranged, tt))
             joints' rows' place' (rw (one_here, e₂)) (e₃ ∙ ap (stored_all rows p.rows) own) place
+
+  -- ---- another building
+
+  module _ (l : 0 < left) (h : p.offset < length job) (b : is_building (byte_at job p.offset) ≡ true) where
+    pub refused_building : (r : Refusal) → number_of r ≡ building_fault p → operand_of r ≡ 0 → whole ≡ stop joints rows (Refused (number_of r) p.offset (operand_of r))
+    refused_building r n o =
+        refused_here l h (number_of r) (operand_of r) (some_number r) (building_tests job p joints h b ∙ sym n)
+        (o ∙ sym (building_named p (file_command_at job p.offset) (number_of r) (sym n)))
+
+    module _ (z : 0 ≡ building_fault p) where
+      tested_building : BuildingPassed p
+      tested_building = building_passed p (sym z)
+
+      building_given : file_command_at job p.offset ≡ one building
+      building_given = at_one job p.offset (no_sets job p joints h b) ∙ ap one (building_read job p joints h b)
+
+      building_here : commands_here job p ≡ (p.offset, building) ∷ []
+      building_here = ap (commands_from p.offset) building_given
+
+      building_width : after_command job p.offset ≡ p.offset + 1
+      building_width = omega (arith, width_one job p.offset (no_sets job p joints h b), ap operands_width (eqb-true (byte_at job p.offset) 13 b), widths.building)
+
+      building_place : behind_building p ≡ next_place room job p
+      unfolding next_place next_state row_count
+      building_place =
+          let n : p.rows ≡ p.rows + row_counts (commands_here job p) = omega (arith, ap row_counts building_here) in
+          let k : counted p.counts (one building) ≡ counted p.counts (file_command_at job p.offset) = ap (counted p.counts) (sym building_given) in
+          rw (building_width, ← n, ← k, building_here)
+
+      building_rows : rows ≡ stored_all rows p.rows (rows_here room job p joints)
+      unfolding rows_here rows_through rows_from stored_all
+      building_rows = rw building_here
+
+      pub building_on : (joints' : JointTable) (p' : Place) → joints' ≡ no_joints → p' ≡ behind_building p → Stands room whole job rows₀ joints' rows p' (left - 1)
+      unfolding next_joints
+      building_on joints' p' ej ep =
+          moved room whole job rows₀ joints rows p left s l h (building_tests job p joints h b ∙ sym z) (no_end_there (byte_at job p.offset) 12 b)
+          (subst (λ (d : FileCommand). Within (counted p.counts d)) (sym building_given) (omega (arith, tested_building.few), omega (arith, tested_building.buildings)))
+          (omega (arith, building_width)) (rw building_here (building_in_range, tt))
+          joints' rows p' (ej ∙ rw building_here) building_rows (ep ∙ building_place)
 
   -- ---- a block
 
@@ -131,12 +198,6 @@ module _ {room : Bool} {whole : Final} {job : List ℕ} {rows₀ : List ℤ} {jo
       tested_block : BlockPassed job p
       tested_block = block_passed job p (sym z)
 
-      no_end_byte : byte_at job p.offset ≡ 0 → ⊥
-      no_end_byte q = by (eqb-true (byte_at job p.offset) 11 b)
-        where
-          by : byte_at job p.offset ≡ 11 → ⊥
-          by w = omega (arith, q, w)
-
       -- what the block leaves
       module _ (sets : List ℕ) (e : sets ≡ slice_range job (p.offset + 2) (p.offset + 2 + 24 * count_at job p.offset)) (rows' : List ℤ) (written : ℕ)
           (e₁ : rows' ≡ stored_all rows p.rows (set_rows_running (running p.state.wall) (p.offset + 2) (storeys_in sets))) (e₂ : written ≡ p.rows + length sets / 24) where
@@ -146,8 +207,8 @@ module _ {room : Bool} {whole : Final} {job : List ℕ} {rows₀ : List ℤ} {jo
         width : length sets ≡ 24 * count_at job p.offset
         width = sets_width job p.offset tested_block.whole e
 
-        counted : length sets / 24 ≡ count_at job p.offset
-        counted = omega (arith, width)
+        counted_sets : length sets / 24 ≡ count_at job p.offset
+        counted_sets = omega (arith, width)
 
         block_own : set_rows_running (running p.state.wall) (p.offset + 2) (storeys_in sets) ≡ rows_here room job p joints
         unfolding rows_here
@@ -156,21 +217,27 @@ module _ {room : Bool} {whole : Final} {job : List ℕ} {rows₀ : List ℤ} {jo
             ∙ sym (ap (rows_through room p.state joints) block_here ∙ set_rows_through room p.state joints (p.offset + 2) (sets_of job p.offset))
 
         abbrev block_behind : Place
-        block_behind = record { offset = p.offset + 2 + length sets; count = p.count + length sets / 24; rows = written; state = p.state }
+        block_behind = record { offset = p.offset + 2 + length sets; counts = record { commands = p.counts.commands + length sets / 24; buildings = p.counts.buildings }; rows = written; state = p.state }
+
+        -- what is counted with it
+        block_counts : block_behind.counts ≡ counted p.counts (file_command_at job p.offset)
+        block_counts =
+            let n : length sets / 24 ≡ length (map (λ t. storey t) (sets_of job p.offset)) =
+            counted_sets ∙ sym (length-map (sets_of job p.offset) (λ t. storey t) ∙ storeys_length (count_at job p.offset) job (p.offset + 2)) in
+            ap (λ (k : ℕ). so_many p.counts.buildings (p.counts.commands + k)) n ∙ ap (counted p.counts) (sym (at_block job p.offset b))
 
         block_place : block_behind ≡ next_place room job p
         unfolding next_place
         block_place =
             let n : written ≡ p.rows + row_counts (commands_here job p) =
-            omega (arith, e₂, counted, ap row_counts block_here, storeys_counted (p.offset + 2) (sets_of job p.offset), storeys_length (count_at job p.offset) job (p.offset + 2)) in
+            omega (arith, e₂, counted_sets, ap row_counts block_here, storeys_counted (p.offset + 2) (sets_of job p.offset), storeys_length (count_at job p.offset) job (p.offset + 2)) in
             let o : p.offset + 2 + length sets ≡ after_command job p.offset = omega (arith, width, width_block job p.offset b) in
-            let c : p.count + length sets / 24 ≡ p.count + length (commands_here job p) = omega (arith, counted, block_many job p b) in
-            rw (n, o, c, block_here, state_kept room p.state joints (p.offset + 2) (sets_of job p.offset))
+            rw (n, o, block_counts, block_here, state_kept room p.state joints (p.offset + 2) (sets_of job p.offset))
 
         pub block_on : Stands room whole job rows₀ joints rows' block_behind (left - 1)
         block_on =
-            moved room whole job rows₀ joints rows p left s l h (many_fault job p joints b ∙ sym z) no_end_byte
-            (omega (arith, block_many job p b, tested_block.few))
+            moved room whole job rows₀ joints rows p left s l h (many_fault job p joints b ∙ sym z) (no_end_there (byte_at job p.offset) 10 b)
+            (subst Within block_counts (omega (arith, counted_sets, tested_block.few), s.asks.buildings))
             (omega (arith, tested_block.whole, width_block job p.offset b))
             (rw block_here (all_in_storeys (p.offset + 2) (sets_of job p.offset) tested_block.ranged))
             joints rows' block_behind

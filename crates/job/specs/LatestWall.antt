@@ -10,12 +10,12 @@ use Rattle.walls.specs.declared.Storey.{Storey}
 use Rattle.walls.specs.declared.Wall.{Wall}
 use Rattle.walls.specs.Base.{wall_coefficient, base_shear}
 use Rattle.format.specs.declared.Command.TheVariants.{Storey as storey}
-use Rattle.context.specs.Running.{room_for, running, start_state}
+use Rattle.context.specs.Running.{room_for, no_joints, running, start_state}
 use Rattle.rows.specs.Rows.{words}
 use Rattle.rows.specs.Writing.{running_storey_row}
 use Rattle.job.specs.Placed.{Placed, Entry, placed_in, placed_all, rows_at}
 use Rattle.job.specs.Earlier.{latest_settings, latest_base}
-use Rattle.job.specs.Walking.{Paused, state_through, first_place, no_joints, walk_from}
+use Rattle.job.specs.Walking.{Paused, state_through, first_place, walk_from}
 use Rattle.job.specs.Reached.{reached, located, place_after, StandsAfter}
 
 -- the running values in the state after these commands
@@ -56,8 +56,8 @@ pub record AtStorey (job : List ℕ) (earlier : List Placed) (p : Placed) (s : S
   pub earlier_are : earlier ≡ placed_all before ++ sets
   -- the walk stands at that command: with a budget of the commands of the file before it it pauses there, with a larger one it goes on
   pub offset : (place_after true first_place before).offset ≡ entry.offset
-  pub pauses : (memory : List ℤ) → room_for (length memory) ≡ true → (walk_from true (length before) job first_place (no_joints) memory).answer ≡ Paused (place_after true first_place before)
-  pub stands : (memory : List ℤ) → room_for (length memory) ≡ true → StandsAfter true job (no_joints) memory before
+  pub pauses : (memory : List ℤ) → room_for (length memory) ≡ true → (walk_from true (length before) job first_place no_joints memory).answer ≡ Paused (place_after true first_place before)
+  pub stands : (memory : List ℤ) → room_for (length memory) ≡ true → StandsAfter true job no_joints memory before
   -- the state that it holds there is the one after all commands before the storey: those of the same block leave it as it was
   pub state : (place_after true first_place before).state ≡ state_through true start_state (located earlier)
   -- that state carries a, W and MR of the base

@@ -9,6 +9,8 @@ use Rattle.layout.specs.Operands.{byte_at}
 use Rattle.blocks.specs.FileCommands.{FileCommand, file_command_at, commands_from}
 use Rattle.context.specs.Context.{Context, nothing, next}
 use Rattle.rows.specs.Rows.{rows_of, words}
+use Rattle.job.specs.declared.Counts.{Counts}
+use Rattle.job.specs.Counts.{first_counts, counted}
 use Rattle.job.specs.Faults.{Tests, tests_at, first_of, after_command}
 
 -- ---- placed commands
@@ -69,16 +71,16 @@ abbrev pub before : Entry → Listing → Listing
 before e (refused number offset) = refused number offset
 before e (accepted es) = accepted (e ∷ es)
 
--- From an offset on, after `count` commands, with what holds there. No end is refusal 1 at the file's length, bytes after the
+-- From an offset on, with what is counted before it and what holds there. No end is refusal 1 at the file's length, bytes after the
 -- end are refusal 3 at the first. The first number is how many commands of the file may still be read: each counts as one command at
 -- least and a 4,097th is refused, so 4,097 of them and the end are enough from the start, and with none left the answer is that
 -- refusal. The tests are handed in, so that what two lists of tests accept can be compared.
-unfoldable pub listed_by : Tests → ℕ → List ℕ → ℕ → ℕ → Context → Listing
-listed_by tests zero job at count h = refused 8 at
-listed_by tests (suc n) job at count h =
-    let fault = first_of (tests job at count h) in
+unfoldable pub listed_by : Tests → ℕ → List ℕ → ℕ → Counts → Context → Listing
+listed_by tests zero job at counts h = refused 8 at
+listed_by tests (suc n) job at counts h =
+    let fault = first_of (tests job at counts h) in
     let here = entry_at job at h in
-    let rest = listed_by tests n job (after_command job at) (count + length (commands_in here)) (context_after h (placed_in here)) in
+    let rest = listed_by tests n job (after_command job at) (counted counts here.given) (context_after h (placed_in here)) in
     cond (leb (length job) at) (refused 1 (length job))
     (cond (ltb 0 fault) (refused fault at)
     (cond (eqb (byte_at job at) 0) (cond (ltb (at + 1) (length job)) (refused 3 (at + 1)) (accepted []))
@@ -86,7 +88,7 @@ listed_by tests (suc n) job at count h =
 
 -- of a whole job, by any tests
 abbrev pub listed_with : Tests → List ℕ → Listing
-listed_with tests job = listed_by tests 4097 job 0 0 nothing
+listed_with tests job = listed_by tests 4097 job 0 first_counts nothing
 
 -- by the tests of 01 and 02
 unfoldable pub listed : List ℕ → Listing

@@ -8,7 +8,9 @@ use Rattle.blocks.specs.FileCommands.{block}
 use Rattle.context.specs.Context.{Context, nothing}
 use Rattle.context.specs.Running.{JointTable}
 use Rattle.rows.specs.Writing.{stored_all}
+use Rattle.job.specs.declared.Counts.{Counts}
 use Rattle.job.specs.declared.Place.{Place}
+use Rattle.job.specs.Counts.{first_counts, counted}
 use Rattle.job.specs.Faults.{tests_at, first_of, after_command}
 use Rattle.job.specs.Placed.{Placed, context_after, Entry, entry_at, commands_in, placed_in, placed_all, all_rows}
 use Rattle.job.specs.Earlier.{end_of}
@@ -17,21 +19,21 @@ use Rattle.job.specs.Walking.{state_through, joints_through, first_place, walk_f
 -- ---- the commands reached
 
 -- the walk stops at an offset: no byte stands there, or a command at fault, or the end
-abbrev pub stops_at : List ℕ → ℕ → ℕ → Context → Bool
-stops_at job at count h = leb (length job) at || (ltb 0 (first_of (tests_at job at count h)) || eqb (byte_at job at) 0)
+abbrev pub stops_at : List ℕ → ℕ → Counts → Context → Bool
+stops_at job at counts h = leb (length job) at || (ltb 0 (first_of (tests_at job at counts h)) || eqb (byte_at job at) 0)
 
--- from an offset on, after `count` commands, with what holds there; the first number as in `listed_by`
-unfoldable pub reached_from : ℕ → List ℕ → ℕ → ℕ → Context → List Entry
-reached_from zero job at count h = []
-reached_from (suc n) job at count h =
+-- from an offset on, with what is counted before it and what holds there; the first number as in `listed_by`
+unfoldable pub reached_from : ℕ → List ℕ → ℕ → Counts → Context → List Entry
+reached_from zero job at counts h = []
+reached_from (suc n) job at counts h =
     let here = entry_at job at h in
-    let rest = reached_from n job (after_command job at) (count + length (commands_in here)) (context_after h (placed_in here)) in
-    cond (stops_at job at count h) [] (here ∷ rest)
+    let rest = reached_from n job (after_command job at) (counted counts here.given) (context_after h (placed_in here)) in
+    cond (stops_at job at counts h) [] (here ∷ rest)
 
 -- of a whole job: the commands of the file before the one at which the walk stops, each with its offset and its context. Of an
 -- accepted job they are the commands of the file.
 unfoldable pub reached : List ℕ → List Entry
-reached job = reached_from 4097 job 0 0 nothing
+reached job = reached_from 4097 job 0 first_counts nothing
 
 -- ---- the walk of the code at them
 
@@ -39,12 +41,13 @@ reached job = reached_from 4097 job 0 0 nothing
 abbrev pub located : List Placed → List (ℕ × Command)
 located ps = map (λ p. (p.offset, p.command)) ps
 
--- behind one command of the file: the offset after it, the commands that it gives and their rows more, and the state after them
+-- behind one command of the file: the offset after it, what is counted with it, its rows more, and the state after the commands that it
+-- gives
 abbrev pub place_behind : Bool → Place → Entry → Place
 place_behind room s e =
     record {
       offset = end_of e;
-      count = s.count + length (commands_in e);
+      counts = counted s.counts e.given;
       rows = s.rows + length (all_rows (placed_in e));
       state = state_through room s.state (commands_in e);
     }

@@ -1,5 +1,5 @@
 -- The walk in the shape of the code. proofs/ joins it to the placed commands. `room` tells whether rows are to be written.
-use Rattle.std.specs.Prelude.{◌≡◌, None, Bool, true, not, cond, List, [], ◌∷◌, ◌++◌, map, Result, Ok, Err, ℕ, zero, suc, ◌+◌, ◌-◌, ◌*◌, ◌≤◌, ◌<◌, eqb, leb, ltb, ℤ, length, replicate}
+use Rattle.std.specs.Prelude.{◌≡◌, Bool, true, not, cond, List, [], ◌∷◌, ◌++◌, map, Result, Ok, Err, ℕ, zero, suc, ◌+◌, ◌-◌, ◌*◌, ◌≤◌, ◌<◌, eqb, leb, ltb, ℤ, length}
 use Rattle.layout.specs.Layouts.{known, operands_width}
 use Rattle.layout.specs.Operands.{byte_at}
 use Rattle.format.specs.declared.Command.{Command}
@@ -12,28 +12,31 @@ use Rattle.context.specs.Context.{given}
 use Rattle.context.specs.Running.{JointTable, start_state, walled, next_state, next_joints, absent_in, SoundState, SoundJoints}
 use Rattle.rows.specs.Rows.{row_count, words}
 use Rattle.rows.specs.Writing.{rows_from, stored_all}
+use Rattle.job.specs.declared.Counts.{Counts}
 use Rattle.job.specs.declared.Place.{Place}
 use Rattle.job.specs.declared.Refused.{Refused as RefusedAt}
 use Rattle.job.specs.declared.Progress.{Progress}
 use Rattle.job.specs.declared.Progress.TheVariants as progress
 use Rattle.job.specs.declared.Stretch.{Stretch}
 use Rattle.job.specs.declared.Stretch.TheVariants as stretch
-use Rattle.job.specs.Faults.{after_command, too_many, misplaced, out_of_range, count_missing, count_out_of_range, passes_limit, set_out_of_range, first_of, operand_named}
+use Rattle.job.specs.Counts.{first_counts, counted}
+use Rattle.job.specs.Faults.{after_command, too_many, seventeenth, misplaced, out_of_range, count_missing, count_out_of_range, passes_limit, set_out_of_range, first_of, operand_named}
 use Rattle.job.specs.Refusals.{number_of, operand_of}
 use Rattle.job.specs.Answers.{FaultAnswer, no_fault, fault_with}
 
--- the tests that need a command's byte alone: by the job's length, the command's offset and byte, the commands before it, and
+-- the tests that need a command's byte alone: by the job's length, the command's offset and byte, what is counted before it, and
 -- whether settings are given
-abbrev pub early_tests : ℕ → ℕ → ℕ → ℕ → Bool → List (Bool × ℕ)
-early_tests bytes at byte count settings_given =
+abbrev pub early_tests : ℕ → ℕ → ℕ → Counts → Bool → List (Bool × ℕ)
+early_tests bytes at byte counts settings_given =
     (not (known byte), 2)
     ∷ (ltb bytes (at + 1 + operands_width byte), 1)
-    ∷ (too_many byte count, 8)
+    ∷ (too_many byte counts.commands, 8)
+    ∷ (seventeenth byte counts.buildings, 13)
     ∷ (misplaced byte settings_given, 4)
     ∷ []
 
-unfoldable pub early_fault : ℕ → ℕ → ℕ → ℕ → Bool → ℕ
-early_fault bytes at byte count settings_given = first_of (early_tests bytes at byte count settings_given)
+unfoldable pub early_fault : ℕ → ℕ → ℕ → Counts → Bool → ℕ
+early_fault bytes at byte counts settings_given = first_of (early_tests bytes at byte counts settings_given)
 
 -- the two that need the command: by the state and the joints that are given
 abbrev pub late_tests : State → JointTable → Command → List (Bool × ℕ)
@@ -48,7 +51,11 @@ late_fault t joints c = first_of (late_tests t joints c)
 -- all of them
 unfoldable pub command_fault : List ℕ → Place → JointTable → ℕ
 command_fault job p joints =
-    first_of (early_tests (length job) p.offset (byte_at job p.offset) p.count (given p.state.settings) ++ late_tests p.state joints (command_at job p.offset))
+    first_of (early_tests (length job) p.offset (byte_at job p.offset) p.counts (given p.state.settings) ++ late_tests p.state joints (command_at job p.offset))
+
+-- of these, the tests of a 0D: its byte is known, and as it has no operands it is not cut short
+unfoldable pub building_fault : Place → ℕ
+building_fault p = first_of ((leb 4096 p.counts.commands, 8) ∷ (leb 16 p.counts.buildings, 13) ∷ (not (given p.state.settings), 4) ∷ [])
 
 -- the tests of a block
 unfoldable pub block_fault : List ℕ → Place → ℕ
@@ -57,7 +64,7 @@ block_fault job p =
     ((count_missing job p.offset, 1)
     ∷ (count_out_of_range (count_at job p.offset), 5)
     ∷ (ltb (length job) (p.offset + 2 + 24 * count_at job p.offset), 1)
-    ∷ (passes_limit (count_at job p.offset) p.count, 8)
+    ∷ (passes_limit (count_at job p.offset) p.counts.commands, 8)
     ∷ (not (given p.state.settings), 4)
     ∷ (not (walled p.state.wall), 6)
     ∷ (set_out_of_range (sets_of job p.offset), 5)
@@ -125,7 +132,7 @@ unfoldable pub next_place : Bool → List ℕ → Place → Place
 next_place room job p =
     record {
       offset = after_command job p.offset;
-      count = p.count + length (commands_here job p);
+      counts = counted p.counts (file_command_at job p.offset);
       rows = p.rows + row_counts (commands_here job p);
       state = state_through room p.state (commands_here job p);
     }
@@ -152,18 +159,15 @@ walk_from room (suc n) job p joints memory =
 
 -- the start of a job
 unfoldable pub first_place : Place
-first_place = record { offset = 0; count = 0; rows = 0; state = start_state }
-
--- no joint is given there
-abbrev pub no_joints : JointTable
-no_joints = replicate 256 None
+first_place = record { offset = 0; counts = first_counts; rows = 0; state = start_state }
 
 pub record WalkAsks (job : List ℕ) (p : Place) (table : JointTable) : Type 0 where
   pub state : SoundState p.state
   pub joints : SoundJoints table
   pub offset : p.offset ≤ length job
-  pub count : p.count ≤ 4096
-  pub rows : p.rows ≤ p.count + p.count
+  pub commands : p.counts.commands ≤ 4096
+  pub buildings : p.counts.buildings ≤ 16
+  pub rows : p.rows ≤ p.counts.commands + p.counts.commands
 
 -- ---- a stretch of the walk: commands by themselves, up to a block
 
@@ -192,8 +196,8 @@ pub record BlockAsks (job : List ℕ) (p : Place) : Type 0 where
   pub block : is_block (byte_at job p.offset) ≡ true
   pub inside : p.offset < length job
   pub state : SoundState p.state
-  pub count : p.count ≤ 4096
-  pub rows : p.rows ≤ p.count + p.count
+  pub commands : p.counts.commands ≤ 4096
+  pub rows : p.rows ≤ p.counts.commands + p.counts.commands
 
 -- how it ended, whatever the joints and the budget are: as a walk from there does, or with the place from which that walk goes on
 abbrev pub BlockStepped : Bool → List ℕ → Place → List ℤ → List ℤ → Result Place RefusedAt → Type 0
@@ -203,6 +207,13 @@ BlockStepped room job p before after (Err r) =
 BlockStepped room job p before after (Ok q) =
     (left : ℕ) (joints : JointTable) → 0 < left → WalkAsks job p joints →
     (walk_from room left job p joints before ≡ walk_from room (left - 1) job q joints after) × WalkAsks job q joints
+
+-- ---- the step over a 0D
+
+-- the place behind it
+abbrev pub behind_building : Place → Place
+behind_building p =
+    record { offset = p.offset + 1; counts = record { commands = p.counts.commands + 1; buildings = p.counts.buildings + 1 }; rows = p.rows; state = start_state }
 
 -- ---- the answers of a walk over a whole job: one from the start ends within 4,097 commands and never pauses
 

@@ -4,7 +4,7 @@
 
 ghost use Rattle.std.specs.Prelude.{◌≡◌, true, false, ◌≤◌, ◌<◌, ◌+◌, ◌*◌, ◌^◌, map, length, slice_range, IfOk, IfErr};
 ghost use Rattle.context.specs.Context.{given};
-ghost use Rattle.context.specs.Running.{room_for, next_state, next_joints, SoundState, SoundJoints};
+ghost use Rattle.context.specs.Running.{room_for, no_joints, next_state, next_joints, SoundState, SoundJoints};
 ghost use Rattle.rows.specs.Rows.{row_count, words};
 ghost use Rattle.rows.specs.Writing.{rows_from, stored_all};
 ghost use Rattle.layout.specs.Layouts.{operands_width, byte_of_kind};
@@ -12,9 +12,10 @@ ghost use Rattle.format.specs.Commands.{byte_of, in_range};
 ghost use Rattle.format.specs.Reading.{command_in};
 ghost use Rattle.blocks.specs.Sets.{is_block, count_at};
 ghost use Rattle.blocks.specs.FileCommands.{one, file_command_at};
-ghost use Rattle.job.specs.Faults.{too_many, misplaced, operand_named};
+ghost use Rattle.job.specs.Counts.{counted};
+ghost use Rattle.job.specs.Faults.{is_building, too_many, misplaced, operand_named};
 ghost use Rattle.job.specs.Refusals.{number_of, operand_of, number_due, operand_due};
-ghost use Rattle.job.specs.Walking.{early_fault, late_fault, block_fault, first_place, walk_from, WalkAsks, Stretched, BlockAsks, BlockStepped, walk_answer, walked_fault};
+ghost use Rattle.job.specs.Walking.{early_fault, late_fault, building_fault, behind_building, block_fault, first_place, walk_from, WalkAsks, Stretched, BlockAsks, BlockStepped, walk_answer, walked_fault};
 ghost use Rattle.job.specs.Answers.{row_count_answer, size_of, fault_answer, fault_of};
 
 use context::{Held, Joints, State};
@@ -23,6 +24,12 @@ use layout::Kind;
 
 // A job has at most so many commands, the end not counted.
 pub const MOST_COMMANDS: u32 = 4096;
+
+// A file has at most so many buildings.
+pub const MOST_BUILDINGS: u32 = 16;
+
+// The byte of another building.
+const BUILDING: u8 = 13;
 
 // A budget that no walk over a whole job spends: the last command is the end, or is refused.
 pub const WHOLE_JOB: u32 = MOST_COMMANDS + 1;
@@ -36,7 +43,7 @@ pub enum Refusal {
     Unknown,
     // 3: bytes follow the end.
     BytesAfterEnd,
-    // 4: the first command is not settings, or settings are given again.
+    // 4: the first command of a building is not settings, or settings are given again.
     MisplacedSettings,
     // 5: this operand is out of range.
     OutOfRange(u32),
@@ -44,6 +51,8 @@ pub enum Refusal {
     Absent,
     // 8: more than 4,096 commands.
     TooMany,
+    // 13: more than 16 buildings.
+    TooManyBuildings,
 }
 
 impl Refusal {
@@ -59,6 +68,7 @@ impl Refusal {
             Refusal::OutOfRange(_) => 5,
             Refusal::Absent => 6,
             Refusal::TooMany => 8,
+            Refusal::TooManyBuildings => 13,
         }
     }
 
@@ -90,11 +100,18 @@ pub struct Refused {
     pub offset: usize,
 }
 
-// Where the walk stands: the offset of the next command, the commands and the rows so far, and what holds.
+// The commands so far and the buildings begun, the first one counted: limits of the whole file, which no building begins anew.
+#[derive(Clone, Copy)]
+pub struct Counts {
+    pub commands: u32,
+    pub buildings: u32,
+}
+
+// Where the walk stands: the offset of the next command, what is counted, the rows so far, and what holds.
 #[derive(Clone, Copy)]
 pub struct Place {
     pub offset: usize,
-    pub count: u32,
+    pub counts: Counts,
     pub rows: usize,
     pub state: State,
 }
@@ -145,12 +162,13 @@ fn misplaced_settings(command: Kind, given: bool) -> bool
     }
 }
 
-// The bytes of the command by itself at a place, by its byte, or the refusal 2, 1, 8 or 4, in this order.
-#[tactic(auto, using(layout::proofs::KindBytes::byte_of_found, layout::proofs::KindBytes::known_found, layout::proofs::KindBytes::unknown), unfolding(crate::specs::Walking::early_fault))]
+// The bytes of the command by itself at a place, by its byte, or the refusal 2, 1, 8 or 4, in this order. Not of a 0D (`pass_building`).
+#[tactic(auto, using(layout::proofs::KindBytes::byte_of_found, layout::proofs::KindBytes::known_found, layout::proofs::KindBytes::unknown), unfolding(crate::specs::Walking::early_fault, crate::specs::Faults::seventeenth))]
 fn test_early<'a>(job: &'a [u8], place: &Place, byte: u8) -> Result<CommandBytes<'a>, Refused>
     requires inside { place.now.offset < length job.now }
-    requires single { is_block byte ≡ false }
-    ensures number { number_due result ≡ early_fault (length job.now) place.now.offset byte place.now.count (given place.now.state.settings) }
+    requires block { is_block byte ≡ false }
+    requires building { is_building byte ≡ false }
+    ensures number { number_due result ≡ early_fault (length job.now) place.now.offset byte place.now.counts (given place.now.state.settings) }
     ensures operand { operand_due result ≡ 0 }
     ensures offset { IfErr result (λ r. r.offset ≡ place.now.offset) }
     ensures kind { IfOk result (λ c. byte_of_kind c.kind ≡ byte) }
@@ -163,7 +181,7 @@ fn test_early<'a>(job: &'a [u8], place: &Place, byte: u8) -> Result<CommandBytes
     if job.len() - offset <= kind.width() {
         return Err(Refusal::CutShort.at(offset));
     }
-    if too_many(kind, place.count) {
+    if too_many(kind, place.counts.commands) {
         return Err(Refusal::TooMany.at(offset));
     }
     if misplaced_settings(kind, place.state.settings.is_some()) {
@@ -222,7 +240,7 @@ fn tested_block(job: &[u8], place: Place) -> Result<&[u8], Refused>
     if bytes < 2 + blocks::SET * count {
         return Err(Refusal::CutShort.at(offset));
     }
-    if MOST_COMMANDS < place.count + count as u32 {
+    if MOST_COMMANDS < place.counts.commands + count as u32 {
         return Err(Refusal::TooMany.at(offset));
     }
     if place.state.settings.is_none() {
@@ -250,9 +268,10 @@ fn carry_out(
     requires joints { SoundJoints joints.old }
     requires ranged { in_range command ≡ true }
     requires offset { place.old.offset < 2 ^ 63 }
-    requires count { place.old.count ≤ 4096 }
+    requires commands { place.old.counts.commands ≤ 4096 }
+    requires single { is_building (byte_of command) ≡ false }
     requires rows { place.old.rows ≤ 8192 }
-    ensures place { place.new ≡ record { offset = behind; count = place.old.count + 1; rows = place.old.rows + row_count command; state = next_state (room_for (length rows.old)) place.old.state command } }
+    ensures place { place.new ≡ record { offset = behind; counts = counted place.old.counts (one command); rows = place.old.rows + row_count command; state = next_state (room_for (length rows.old)) place.old.state command } }
     ensures joints { joints.new ≡ next_joints joints.old command }
     ensures memory { rows.new ≡ stored_all rows.old place.old.rows (map (words place.old.offset (byte_of command)) (rows_from place.new.state joints.new command)) }
 {
@@ -265,7 +284,38 @@ fn carry_out(
     };
     place.rows = rows::emit(rows, place.rows, place.offset, held, command);
     place.offset = behind;
-    place.count += 1;
+    place.counts.commands += 1;
+}
+
+// One step over the 0D at a place: its tests, then nothing is given any more. The place behind it. A step of its own: with 13 among the
+// tests of every command, and the buildings counted with each, a command takes up to 7 % more instructions (docs/DECISIONS.md).
+#[tactic(auto, unfolding(crate::specs::Walking::building_fault))]
+fn pass_building(place: Place, joints: &mut Joints) -> Result<Place, Refused>
+    requires state { SoundState place.state }
+    requires offset { place.offset < 2 ^ 63 }
+    ensures number { number_due result ≡ building_fault place }
+    ensures operand { operand_due result ≡ 0 }
+    ensures refused { IfErr result (λ r. (r.offset ≡ place.offset) × (joints.new ≡ joints.old)) }
+    ensures passed { IfOk result (λ p. (p ≡ behind_building place) × (joints.new ≡ no_joints)) }
+{
+    let offset = place.offset;
+    let counts = place.counts;
+    if MOST_COMMANDS <= counts.commands {
+        return Err(Refusal::TooMany.at(offset));
+    }
+    if MOST_BUILDINGS <= counts.buildings {
+        return Err(Refusal::TooManyBuildings.at(offset));
+    }
+    if place.state.settings.is_none() {
+        return Err(Refusal::MisplacedSettings.at(offset));
+    }
+    let mut behind = place;
+    context::next(&mut behind.state, false, Command::Building);
+    context::hold_joint(joints, Command::Building);
+    behind.offset += 1;
+    behind.counts.commands += 1;
+    behind.counts.buildings += 1;
+    Ok(behind)
 }
 
 // The commands by themselves from a place on, up to a block, at most so many. The job is the whole one; the joints are those
@@ -289,6 +339,10 @@ fn walk_stretch(
         let byte = job[offset];
         if byte == blocks::BLOCK {
             return Ok(Stretch::Block(place, left + 1));
+        }
+        if byte == BUILDING {
+            place = pass_building(place, joints)?;
+            continue;
         }
         let bytes = test_early(job, &place, byte)?;
         let behind = offset + 1 + bytes.kind.width();
@@ -316,7 +370,10 @@ fn pass_block(job: &[u8], place: Place, rows: &mut [i64]) -> Result<Place, Refus
     let written = rows::emit_sets(rows, place.rows, sets, start, wall);
     Ok(Place {
         offset: start + sets.len(),
-        count: place.count + (sets.len() / blocks::SET) as u32,
+        counts: Counts {
+            commands: place.counts.commands + (sets.len() / blocks::SET) as u32,
+            ..place.counts
+        },
         rows: written,
         ..place
     })
@@ -354,7 +411,10 @@ pub fn first_place() -> Place
 {
     Place {
         offset: 0,
-        count: 0,
+        counts: Counts {
+            commands: 0,
+            buildings: 1,
+        },
         rows: 0,
         state: context::start(),
     }

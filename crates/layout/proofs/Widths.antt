@@ -1,4 +1,4 @@
--- Figures of 01, "Job commands", and 02, No. 9: the widths of the commands' operands, 57 bytes at most, and the bytes that are known. Assumes nothing.
+-- Figures of 01, "Job commands", and 02, No. 9 and No. 10: the widths of the commands' operands, 57 bytes at most, and the bytes that are known. Assumes nothing.
 use mathlib.Core.Bool.{true, false}
 use mathlib.Core.Path.{◌≡◌, refl}
 use Prim.Native.Nat.{ℕ, ◌≤◌, ◌<◌}
@@ -24,6 +24,7 @@ pub record OperandWidths : Type 0 where
   pub footing : operands_width 9 ≡ 57
   pub detail : operands_width 10 ≡ 8
   pub basement : operands_width 12 ≡ 26
+  pub building : operands_width 13 ≡ 0
 
 pub widths : OperandWidths
 unfolding operands_width width_of_all width forms_of forms_in
@@ -41,6 +42,7 @@ widths =
       footing = refl;
       detail = refl;
       basement = refl;
+      building = refl;
     }
 
 width_other : (b : ℕ) → known b ≡ false → operands_width b ≤ 57
@@ -52,19 +54,19 @@ pub width_le : (byte : ℕ) → operands_width byte ≤ 57
 width_le =
     each_byte (λ b. operands_width b ≤ 57) (omega (arith, widths.finish)) (omega (arith, widths.settings)) (omega (arith, widths.joint)) (omega (arith, widths.column))
     (omega (arith, widths.beam)) (omega (arith, widths.hingeless)) (omega (arith, widths.wall_base)) (omega (arith, widths.storey)) (omega (arith, widths.soil))
-    (omega (arith, widths.footing)) (omega (arith, widths.detail)) (omega (arith, widths.basement)) width_other
+    (omega (arith, widths.footing)) (omega (arith, widths.detail)) (omega (arith, widths.basement)) (omega (arith, widths.building)) width_other
 
-pub last_known : known 12 ≡ true
+pub last_known : known 13 ≡ true
 unfolding known known_in
 last_known = refl
 
-pub next_unknown : known 13 ≡ false
+pub next_unknown : known 14 ≡ false
 unfolding known known_in
 next_unknown = refl
 
 -- the table of the code
 
-pub bytes_few : (k : Kind) → byte_of_kind k < 13
+pub bytes_few : (k : Kind) → byte_of_kind k < 14
 bytes_few Finish = omega arith
 bytes_few _ = omega arith
 

@@ -1,9 +1,9 @@
--- The layout of each command: its byte, then its operands in order. 01, "Job commands"; 02, No. 9.
+-- The layout of each command: its byte, then its operands in order. 01, "Job commands"; 02, No. 9 and No. 10.
 use Rattle.std.specs.Prelude.{Bool, true, false, cond, List, [], ◌∷◌, ℕ, ◌+◌, eqb, Option, Some, None}
 use Rattle.layout.specs.declared.Form.{Form}
 use Rattle.layout.specs.declared.Form.TheVariants.{Id, Behaviour, Overstrength, MemberLength, Moment, Force, SignedMoment, SignedForce, WallLength, Inertia, SoilKind, SoilValue, YesNo, Side, FootingFlags, Place, Depth, Ductility, HingePlace}
 use Rattle.layout.specs.declared.Kind.{Kind}
-use Rattle.layout.specs.declared.Kind.TheVariants.{Finish, Settings, Joint, Column, Beam, Hingeless, WallBase, Storey, Soil, Footing, Detail, Block, Basement}
+use Rattle.layout.specs.declared.Kind.TheVariants.{Finish, Settings, Joint, Column, Beam, Hingeless, WallBase, Storey, Soil, Footing, Detail, Block, Basement, Building}
 use Rattle.layout.specs.Forms.{width}
 
 abbrev pub layouts : List (ℕ × List Form)
@@ -35,6 +35,8 @@ layouts =
     ∷ (10, Place ∷ Depth ∷ Depth ∷ Ductility ∷ YesNo ∷ [])
     -- basement member: place of the nearest hinge; joint id; VV, VE; MV, ME; VR; MR
     ∷ (12, HingePlace ∷ Id ∷ SignedForce ∷ Force ∷ SignedMoment ∷ Moment ∷ Force ∷ Moment ∷ [])
+    -- another building
+    ∷ (13, [])
     ∷ []
 
 unfoldable pub known_in : List (ℕ × List Form) → ℕ → Bool
@@ -82,6 +84,7 @@ byte_of_kind Footing = 9
 byte_of_kind Detail = 10
 byte_of_kind Block = 11
 byte_of_kind Basement = 12
+byte_of_kind Building = 13
 
 -- the kind of a byte; a byte that is no command's has none
 unfoldable pub kind_of : ℕ → Option Kind
@@ -99,4 +102,5 @@ kind_of byte =
     (cond (eqb byte 10) (Some Detail)
     (cond (eqb byte 11) (Some Block)
     (cond (eqb byte 12) (Some Basement)
-    None))))))))))))
+    (cond (eqb byte 13) (Some Building)
+    None)))))))))))))

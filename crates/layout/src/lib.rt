@@ -1,5 +1,5 @@
 // The layout of a job's commands: the forms of operands with their widths and ranges, the kinds of commands with the operands of each
-// in order, and the numbers of a file. 01, "Job commands"; 02, No. 9.
+// in order, and the numbers of a file. 01, "Job commands"; 02, No. 9 and No. 10.
 #![tactic(auto)]
 
 ghost use Rattle.std.specs.Prelude.{◌≡◌, ◌+◌, ◌≤◌, ◌<◌, length, get_or, take, drop, MatchResult, Some, None};
@@ -129,6 +129,7 @@ pub enum Kind {
     Detail,
     Block,
     Basement,
+    Building,
 }
 
 // A byte that no command begins with.
@@ -157,6 +158,7 @@ impl TryFrom<u8> for Kind {
             10 => Ok(Kind::Detail),
             11 => Ok(Kind::Block),
             12 => Ok(Kind::Basement),
+            13 => Ok(Kind::Building),
             _ => Err(UnknownByte),
         }
     }
@@ -173,7 +175,7 @@ impl From<Kind> for u8 {
 
 // The bytes of the operands of each kind, in the order of the kinds; those of a block have no fixed width. A static stands once in the
 // program, and a width is one load from it; a match becomes jumps in the walk, where its byte is compared with that of a block.
-static WIDTHS: [usize; 13] = [0, 6, 13, 28, 32, 22, 24, 24, 6, 57, 8, 0, 26];
+static WIDTHS: [usize; 14] = [0, 6, 13, 28, 32, 22, 24, 24, 6, 57, 8, 0, 26, 0];
 
 impl Kind {
     // The bytes of its operands, where they have a fixed width. A table: as the sum over `forms`, which is proved as well, `run` takes 1.4 to
@@ -191,7 +193,7 @@ impl Kind {
         ensures { result.now ≡ forms_of (byte_of_kind self) }
     {
         match self {
-            Kind::Finish | Kind::Block => &[],
+            Kind::Finish | Kind::Block | Kind::Building => &[],
             // q, gj, gf
             Kind::Settings => &[Form::Behaviour, Form::Overstrength, Form::Overstrength],
             // id; RB, RC, EB

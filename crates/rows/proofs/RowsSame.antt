@@ -24,7 +24,7 @@ use Rattle.walls.proofs.Running.{base_row_of, storey_row_of}
 use Rattle.members.specs.declared.Detail.{Detail}
 use Rattle.members.specs.Detail.{detail_row}
 use Rattle.format.specs.declared.Command.{Command}
-use Rattle.format.specs.declared.Command.TheVariants.{Finish as finish, Settings as settings, Joint as joint, Column as column, Beam as beam, Hingeless as hingeless, WallBase as wall_base, Storey as storey, Soil as soil, Footing as footing, Detail as detail, Basement as basement}
+use Rattle.format.specs.declared.Command.TheVariants.{Finish as finish, Settings as settings, Joint as joint, Column as column, Beam as beam, Hingeless as hingeless, WallBase as wall_base, Storey as storey, Soil as soil, Footing as footing, Detail as detail, Basement as basement, Building as building}
 use Rattle.context.specs.declared.State.{State}
 use Rattle.context.specs.Context.{Context, given, missing, when_given, absent}
 use Rattle.context.specs.Running.{JointTable, joint_at, running, wall_kept, next_joints, next_state}
@@ -34,11 +34,11 @@ use Rattle.rows.specs.Rows.{row_count, rows_of, rows_with}
 use Rattle.rows.proofs.Laws.{as_long}
 use Rattle.rows.specs.Writing.{running_base_row, running_storey_row, rows_from}
 
-or_first : (a b : Bool) → (a || b) ≡ false → a ≡ false
+pub or_first : (a b : Bool) → (a || b) ≡ false → a ≡ false
 or_first true b e = e
 or_first false b e = refl
 
-or_second : (a b : Bool) → (a || b) ≡ false → b ≡ false
+pub or_second : (a b : Bool) → (a || b) ≡ false → b ≡ false
 or_second true b e = absurd (differ e)
 or_second false b e = e
 
@@ -54,7 +54,7 @@ hinge_found s true (Some j) o e = refl
 hinge_found s false j None e = absurd (differ e)
 hinge_found s false j (Some b) e = refl
 
-no_rows : (o : Option Settings) → when_given {B = Row} o (λ s. []) ≡ []
+pub no_rows : (o : Option Settings) → when_given {B = Row} o (λ s. []) ≡ []
 no_rows None = refl
 no_rows (Some s) = refl
 
@@ -116,6 +116,7 @@ module _ (room : Bool) (t : State) (table : JointTable) (h : Context) (s : Shows
   rows_as_many (storey x) p a =
       as_long h.settings (settings_given_lem room t table h s ∙ p) _ 1 (λ y. as_long h.wall (found h.wall a) _ 1 (λ b. refl))
   rows_as_many (soil x) p a = ap length (no_rows h.settings)
+  rows_as_many building p a = ap length (no_rows h.settings)
   rows_as_many (footing f) p a =
       as_long h.settings (settings_given_lem room t table h s ∙ p) _ 2 (λ y. as_long h.ground (found h.ground a) _ 2 (λ g. refl))
   rows_as_many (basement id m) p a =

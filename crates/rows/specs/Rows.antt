@@ -1,5 +1,6 @@
 -- The rows of a command, from its context. 01, "Rows and verdict bits": "Settings, joint, wall base and soil are those
--- that hold at the row's command"; commands 01, 02, 08 write none. A basement member: 02, No. 9.
+-- that hold at the row's command"; commands 01, 02, 08 write none, nor does 0D (02, No. 10). A basement
+-- member: 02, No. 9.
 use Rattle.std.specs.Prelude.{List, [], ◌∷◌, ℕ, ℤ, pos}
 use Rattle.coefficient.specs.declared.Settings.{Settings}
 use Rattle.claims.specs.declared.Row.{Row}
@@ -13,7 +14,7 @@ use Rattle.walls.specs.Storey.{storey_row}
 use Rattle.actions.specs.declared.Sign.TheVariants.{Plus, Minus}
 use Rattle.footing.specs.Rows.{footing_row}
 use Rattle.format.specs.declared.Command.{Command}
-use Rattle.format.specs.declared.Command.TheVariants.{Finish as finish, Settings as settings, Joint as joint, Column as column, Beam as beam, Hingeless as hingeless, WallBase as wall_base, Storey as storey, Soil as soil, Footing as footing, Detail as detail, Basement as basement}
+use Rattle.format.specs.declared.Command.TheVariants.{Finish as finish, Settings as settings, Joint as joint, Column as column, Beam as beam, Hingeless as hingeless, WallBase as wall_base, Storey as storey, Soil as soil, Footing as footing, Detail as detail, Basement as basement, Building as building}
 use Rattle.context.specs.Context.{Context, when_given}
 use Rattle.rows.specs.Nearest.{nearest_coefficient}
 
@@ -43,6 +44,7 @@ row_count (joint id j) = 0
 row_count (soil t) = 0
 row_count (footing f) = 2
 row_count (basement id m) = 2
+row_count building = 0
 row_count _ = 1
 
 -- words 2 to 7 of a row

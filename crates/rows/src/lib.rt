@@ -28,7 +28,11 @@ fn row_count(command: Command) -> usize
     ensures { result ≡ row_count command }
 {
     match command {
-        Command::Finish | Command::Settings(_) | Command::Joint(_, _) | Command::Soil(_) => 0,
+        Command::Finish
+        | Command::Settings(_)
+        | Command::Joint(_, _)
+        | Command::Soil(_)
+        | Command::Building => 0,
         Command::Footing(_) | Command::Basement(_, _) => 2,
         _ => 1,
     }
@@ -90,7 +94,11 @@ fn row_of(held: Held, command: Command) -> Option<Row>
         Command::WallBase(b) => Some(walls::base_row(state.wall.running()?, b)),
         Command::Storey(s) => Some(walls::storey_row(state.wall.running()?, s)),
         Command::Detail(d) => Some(members::detail_row(d)),
-        Command::Finish | Command::Settings(_) | Command::Joint(_, _) | Command::Soil(_) => None,
+        Command::Finish
+        | Command::Settings(_)
+        | Command::Joint(_, _)
+        | Command::Soil(_)
+        | Command::Building => None,
         Command::Footing(_) | Command::Basement(_, _) => unreachable!(),
     }
 }

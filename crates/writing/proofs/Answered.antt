@@ -13,8 +13,8 @@ use borrow.Author.Tests.{le-leb, lt-leb, leb-true}
 use Rattle.layout.specs.Forms.{width}
 use Rattle.layout.specs.Layouts.{forms_of, forms_in, width_of_all, operands_width}
 use Rattle.format.specs.declared.Command.{Command}
-use Rattle.format.specs.declared.Command.TheVariants.{Finish as finish, Settings as settings, Joint as joint, Column as column, Beam as beam, Hingeless as hingeless, WallBase as wall_base, Storey as storey, Soil as soil, Footing as footing, Detail as detail, Basement as basement}
-use Rattle.format.specs.Commands.{byte_of, related, all_in_range as all_in, in_range}
+use Rattle.format.specs.declared.Command.TheVariants.{Finish as finish, Settings as settings, Joint as joint, Column as column, Beam as beam, Hingeless as hingeless, WallBase as wall_base, Storey as storey, Soil as soil, Footing as footing, Detail as detail, Basement as basement, Building as building}
+use Rattle.format.specs.Commands.{byte_of}
 use Rattle.format.proofs.RangeTest.{and_first}
 use Rattle.blocks.specs.Sets.{count_in_range, all_in_range}
 use Rattle.blocks.specs.FileCommands.{FileCommand, one, block, width_of}
@@ -39,6 +39,7 @@ bytes_width (soil s) = refl
 bytes_width (footing f) = refl
 bytes_width (detail d) = refl
 bytes_width (basement id m) = refl
+bytes_width building = refl
 
 -- and no more than a footing's 58
 most : (c : Command) → leb (length (bytes_of c)) 58 ≡ true
@@ -55,14 +56,10 @@ most (soil s) = refl
 most (footing f) = refl
 most (detail d) = refl
 most (basement id m) = refl
+most building = refl
 
 pub bytes_most : (c : Command) → length (bytes_of c) ≤ 58
 bytes_most c = leb-true (length (bytes_of c)) 58 (most c)
-
--- the end has no operand that could be out of range
-pub end_in_range : in_range finish ≡ true
-unfolding in_range all_in related forms_of forms_in
-end_in_range = refl
 
 -- ---- the commands of a file
 

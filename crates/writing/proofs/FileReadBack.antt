@@ -15,7 +15,8 @@ use Rattle.blocks.specs.FileCommands.{FileCommand, one, file_byte_of, width_of}
 use Rattle.writing.specs.Bytes.{operand_bytes, bytes_of, file_bytes_of}
 use Rattle.writing.specs.Answers.{file_in_range}
 use Rattle.writing.specs.Files.{AllWritable, all_bytes, written_in_turn, with_offsets, read_from}
-use Rattle.writing.proofs.Answered.{file_bytes_width, end_in_range, answer_written, slice_written}
+use Rattle.format.proofs.RangeTest.{end_in_range}
+use Rattle.writing.proofs.Answered.{file_bytes_width, answer_written, slice_written}
 use Rattle.writing.proofs.BlockReadBack.{byte_there, width_there, read_back}
 
 -- ---- written

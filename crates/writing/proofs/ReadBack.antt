@@ -20,7 +20,7 @@ use Rattle.layout.proofs.Numbers.{Bytes, bytes_drop, signed_of_bits}
 use Rattle.layout.proofs.OperandsRead.{at}
 use Rattle.format.specs.declared.SoilGiven.{SoilGiven}
 use Rattle.format.specs.declared.Command.{Command}
-use Rattle.format.specs.declared.Command.TheVariants.{Finish as finish, Settings as settings, Joint as joint, Column as column, Beam as beam, Hingeless as hingeless, WallBase as wall_base, Storey as storey, Soil as soil, Footing as footing, Detail as detail, Basement as basement}
+use Rattle.format.specs.declared.Command.TheVariants.{Finish as finish, Settings as settings, Joint as joint, Column as column, Beam as beam, Hingeless as hingeless, WallBase as wall_base, Storey as storey, Soil as soil, Footing as footing, Detail as detail, Basement as basement, Building as building}
 use Rattle.format.specs.Commands.{byte_of, operands_of, command_of, related, all_in_range, in_range}
 use Rattle.format.specs.Reading.{command_at}
 use Rattle.format.proofs.RangeTest.{and_first}
@@ -53,6 +53,7 @@ narrow (footing f) t =
     (tt, (tt, (tt, (tt, (bits_narrow t.nv, (bits_narrow t.ne, (bits_narrow t.xv, (bits_narrow t.xe, (bits_narrow t.yv, (bits_narrow t.ye, (bits_narrow t.hv, (bits_narrow t.he, (tt, (tt, (tt, tt)))))))))))))))
 narrow (detail d) t = (tt, (tt, (tt, (tt, (tt, tt)))))
 narrow (basement id m) t = (tt, (t.0, (bits_narrow t.1, (tt, (bits_narrow t.2, (tt, (tt, (tt, tt))))))))
+narrow building t = tt
 
 pub fits : (c : Command) → OfTypes c → in_range c ≡ true → Fits (forms_of (byte_of c)) (operands_of c)
 unfolding in_range
@@ -83,6 +84,7 @@ same_command (footing f) t =
     )
 same_command (detail d) t = refl
 same_command (basement id m) t = rw (signed_of_bits t.1, signed_of_bits t.2)
+same_command building t = refl
 
 module _ (front : List ℕ) (c : Command) (rest : List ℕ) where
   -- a file with the command behind what stands in front of it

@@ -1,5 +1,5 @@
 // The calls `write` and `write_block`: one command's values, or a block of storeys, written as bytes into a lent slice. Neither has a
-// `requires`. 02, No. 2, No. 7 and No. 9.
+// `requires`. 02, No. 2, No. 7, No. 9 and No. 10.
 // The check opens at each goal what says how wide a command's operands are.
 #![tactic(auto, unfolding(layout::specs::Layouts::operands_width, layout::specs::Layouts::width_of_all, layout::specs::Layouts::forms_of, layout::specs::Layouts::forms_in, layout::specs::Forms::width))]
 
@@ -8,7 +8,7 @@ ghost use Rattle.slices.specs.Written.{Put};
 ghost use Rattle.layout.specs.declared.Kind.{Kind};
 ghost use Rattle.layout.specs.declared.Kind.TheVariants as kind;
 ghost use Rattle.layout.specs.Layouts.{byte_of_kind, forms_of, operands_width};
-ghost use Rattle.format.specs.declared.Command.TheVariants.{Finish as finish};
+ghost use Rattle.format.specs.declared.Command.TheVariants.{Finish as finish, Building as building};
 ghost use Rattle.format.specs.Commands.{byte_of, operands_of};
 ghost use Rattle.format.specs.Reading.{command_at};
 ghost use Rattle.format.specs.Types.{OfTypes};
@@ -63,7 +63,29 @@ impl Operands for End {
         End
     }
 
-    #[tactic(auto, using(crate::proofs::Answered::end_in_range))]
+    #[tactic(auto, using(format::proofs::RangeTest::end_in_range))]
+    fn in_range(self) -> bool {
+        true
+    }
+}
+
+// Another building, which has none either.
+#[derive(Clone, Copy)]
+pub struct Building;
+
+impl Operands for Building {
+    ghost command = { λ x. building };
+
+    ghost KIND = { kind.Building };
+
+    const KIND: Kind = Kind::Building;
+
+    #[tactic(auto, unfolding(format::specs::Commands::command_of))]
+    fn read(_operands: &[u8]) -> Building {
+        Building
+    }
+
+    #[tactic(auto, using(format::proofs::RangeTest::building_in_range))]
     fn in_range(self) -> bool {
         true
     }
@@ -85,6 +107,12 @@ pub trait Puts: Operands {
 }
 
 impl Puts for End {
+    fn put(self, _bytes: &mut [u8]) {}
+
+    ghost same_byte = { λ x. refl };
+}
+
+impl Puts for Building {
     fn put(self, _bytes: &mut [u8]) {}
 
     ghost same_byte = { λ x. refl };
@@ -280,6 +308,7 @@ pub fn write(command: Command, bytes: &mut [u8]) -> Result<usize, WriteError>
         Command::Footing(f) => write_values(f, bytes),
         Command::Detail(d) => write_values(d, bytes),
         Command::Basement(id, m) => write_values((id, m), bytes),
+        Command::Building => write_values(Building, bytes),
     }
 }
 

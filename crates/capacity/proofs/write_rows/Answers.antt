@@ -1,9 +1,9 @@
 -- `capacity::write_rows` meets its contract: the walk from the start writes the rows (Written.antt). Assumes nothing.
 use mathlib.Core.Path.{sym, ap, ◌∙◌, subst}
 use lib.ListN.{length}
-use Rattle.context.specs.Running.{room_for}
+use Rattle.context.specs.Running.{room_for, no_joints}
 use Rattle.job.specs.declared.Place.{Place}
-use Rattle.job.specs.Walking.{Final, no_joints, walk_from, WalkAsks}
+use Rattle.job.specs.Walking.{Final, walk_from, WalkAsks}
 use Rattle.job.proofs.Begin.{begin_asks}
 use Rattle.capacity.proofs.Written.{walk_writes}
 use Rattle.capacity.proofs.write_rows.Goals as goal

@@ -3,7 +3,7 @@ use mathlib.Core.Logic.{◌⊎◌, inl, inr}
 use mathlib.Core.Path.{◌≡◌, refl}
 use Rattle.std.specs.Prelude.{Some, None}
 use Rattle.layout.specs.declared.Kind.{Kind}
-use Rattle.layout.specs.declared.Kind.TheVariants.{Finish, Settings, Joint, Column, Beam, Hingeless, WallBase, Storey, Soil, Footing, Detail, Block, Basement}
+use Rattle.layout.specs.declared.Kind.TheVariants.{Finish, Settings, Joint, Column, Beam, Hingeless, WallBase, Storey, Soil, Footing, Detail, Block, Basement, Building}
 use Rattle.layout.specs.Layouts.{byte_of_kind}
 use Rattle.format.specs.Commands.{relation_operand}
 use Rattle.format.proofs.relation_operand.Goals as goal
@@ -23,6 +23,7 @@ no_relation Footing s g b = refl
 no_relation Detail s g b = refl
 no_relation Block s g b = refl
 no_relation Basement s g b = absurd (b refl)
+no_relation Building s g b = refl
 
 second : (k : Kind) → (k ≡ Soil) ⊎ (k ≡ Basement) → Some 1 ≡ relation_operand (byte_of_kind k)
 unfolding relation_operand

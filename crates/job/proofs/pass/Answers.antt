@@ -2,8 +2,9 @@
 use Rattle.std.proofs.Common.{[], false, refl, sym, ap, ◌∙◌, subst}
 use Rattle.std.proofs.lemmas.Result.{err_from_is_err_and}
 use Rattle.layout.proofs.Numbers.{Bytes}
+use Rattle.context.specs.Running.{no_joints}
 use Rattle.job.specs.declared.Place.{Place}
-use Rattle.job.specs.Walking.{Finished, Paused, Final, no_joints, WalkAsks, refused_there, progress_answer}
+use Rattle.job.specs.Walking.{Finished, Paused, Final, WalkAsks, refused_there, progress_answer}
 use Rattle.job.proofs.Begin.{begin_asks, ended}
 use Rattle.job.proofs.pass.Goals as goal
 
