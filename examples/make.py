@@ -149,6 +149,18 @@ def medium(storey):
     return dict(ME=3000 * sum(SHEARS[storey:]), VE=1000 * SHEARS[storey], J=J, J0=J0, VR=VR, MS=MS)
 
 
+def frame(VR):
+    """A storey of a frame, by the shear strength of its beam at end 2."""
+    return [
+        SETTINGS,
+        command("joint", "joint 1, both ends of N1", id=1, RB=210000, RC=380000, EB=120000),
+        command("column", "column C1, outer", **C3 | dict(VR=199000)),
+        command("beam", "beam B1, end 1", **B1, V0=82000, VR=180000),
+        command("beam", "beam B1, end 2", **B1, V0=-88000, VR=VR),
+        command("no_hinges", "beam N1, short and deep", joint1=1, joint2=1, **N2),
+    ]
+
+
 STRENGTHS = "R1plus R2plus R1minus R2minus"
 TANGENT_35, RADIANS_35 = 0.70020754, 0.61086524
 
@@ -176,6 +188,9 @@ JOBS = {
         command("beam", "beam B1, end 1, storey 2, strengthened", **B1 | dict(R1plus=315000), V0=82000, VR=200000),
         command("no_hinges", "member N1, storey 2", joint1=1, joint2=1, **N2),
     ],
+    # A storey whose beam fails at end 2, and the same with a greater VR there: alike in every byte but the four of this VR.
+    "strength": frame(VR=160000),
+    "stronger": frame(VR=175000),
     # Shears that the strengths give and shears that q caps: a column in two storeys, each also with a larger section; a beam with one of
     # each; two wall bases that differ in 1 N·m of the seismic moment.
     "caps": [

@@ -25,6 +25,15 @@ pub fn compared(
     wanted: Vec<String>,
     compare: impl Fn(&mut Random, &mut Met) -> Result<u64, String>,
 ) {
+    compared_so_often(what, often(wanted), compare);
+}
+
+/// The same with how often each case must be met in a run of many rounds.
+pub fn compared_so_often(
+    what: &str,
+    wanted: Vec<(String, u64)>,
+    compare: impl Fn(&mut Random, &mut Met) -> Result<u64, String>,
+) {
     let (asked, seed) = arguments();
     let mut random = Random::new(seed);
     let mut met = Met::default();
@@ -39,7 +48,12 @@ pub fn compared(
         println!("no {what} were compared");
         std::process::exit(1);
     }
-    met.finish(done, what, wanted);
+    met.finish_so_often(done, what, wanted);
+}
+
+/// Cases that must each be met often.
+pub fn often(wanted: Vec<String>) -> Vec<(String, u64)> {
+    wanted.into_iter().map(|case| (case, OFTEN)).collect()
 }
 
 /// How often each case was met.
@@ -55,13 +69,19 @@ impl Met {
 
     /// Prints that all rounds agree, or ends the program where there were many and a wanted case was seldom met.
     pub fn finish(&self, rounds: u64, what: &str, wanted: Vec<String>) {
+        self.finish_so_often(rounds, what, often(wanted));
+    }
+
+    /// The same with how often each case must be met.
+    pub fn finish_so_often(&self, rounds: u64, what: &str, wanted: Vec<(String, u64)>) {
         let times = |case: &String| self.0.get(case).copied().unwrap_or(0);
         let seldom: Vec<String> = wanted
             .into_iter()
-            .filter(|case| times(case) < OFTEN)
+            .filter(|(case, least)| times(case) < *least)
+            .map(|(case, least)| format!("{case} ({} of {least})", times(&case)))
             .collect();
         if rounds >= MANY && !seldom.is_empty() {
-            println!("met fewer than {OFTEN} times: {}", seldom.join(", "));
+            println!("met too seldom: {}", seldom.join(", "));
             std::process::exit(1);
         }
         let rarest = self.0.iter().min_by_key(|(_, &times)| times);

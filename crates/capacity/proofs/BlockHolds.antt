@@ -10,14 +10,14 @@ use lib.ListN.{length, drop, length-append}
 use Rattle.coefficient.specs.declared.Settings.{Settings}
 use Rattle.walls.specs.declared.WallBase.{WallBase}
 use Rattle.walls.specs.declared.Storey.{Storey}
-use Rattle.walls.specs.Storey.{storey_claims}
+use Rattle.walls.specs.Storey.{storey_row, storey_claims}
 use Rattle.claims.specs.Claims.{Hold}
 use Rattle.format.specs.declared.Command.TheVariants.{Storey as storey}
 use Rattle.layout.proofs.Numbers.{Bytes}
 use Rattle.blocks.specs.FileCommands.{FileCommand, storeys_from, commands_from}
 use Rattle.context.specs.Context.{Context, next, absent}
 use Rattle.context.proofs.Shown.{present}
-use Rattle.rows.specs.Rows.{rows_of, rows_with}
+use Rattle.rows.specs.Rows.{rows_of, rows_with, words}
 use Rattle.rows.specs.Writing.{joined}
 use Rattle.job.specs.Placed.{Placed, place_each, placed_in, placed_all, Job, accepted, placed, rows_at, all_rows}
 use Rattle.job.proofs.PlacedCases.{placed_of_lem}
@@ -48,38 +48,33 @@ all_held job b ps e m l =
 
 -- ---- a storey of a block
 
+-- one of them, as it is placed
+abbrev pub placed_set : Context → ℕ → Storey → Placed
+placed_set h at s = record { offset = at; command = storey s; context = h }
+
+abbrev pub placed_sets : Context → ℕ → List Storey → List Placed
+placed_sets h at ss = place_each h (storeys_from at ss)
+
 -- it is placed behind those before it, with the block's context
-record Split (h : Context) (at : ℕ) (first : List Storey) (s : Storey) (rest : List Storey) : Type 0 where
-  pub sets : List Placed
-  pub later : List Placed
-  pub are : place_each h (storeys_from at (first ++ s ∷ rest)) ≡ sets ++ record { offset = at + 24 * length first; command = storey s; context = h } ∷ later
-  pub rows : length (all_rows sets) ≡ length first
-
--- a storey has one row where settings and a base are given
-one_row : (h : Context) (at : ℕ) (settings : Settings) (base : WallBase) → h.settings ≡ Some settings → h.wall ≡ Some base → (s : Storey) → length (rows_at (record { offset = at; command = storey s; context = h })) ≡ 1
-unfolding rows_of rows_with
-one_row h at settings base e w s = rw (e, w)
-
-split : (h : Context) (settings : Settings) (base : WallBase) → h.settings ≡ Some settings → h.wall ≡ Some base → (at : ℕ) (first : List Storey) (s : Storey) (rest : List Storey) → Split h at first s rest
-unfolding next all_rows
-split h settings base e w at [] s rest =
-    let z : at ≡ at + 24 * 0 = omega arith in
-    record {
-      sets = [];
-      later = place_each h (storeys_from (at + 24) rest);
-      are = ap (λ (k : ℕ). record { offset = k; command = storey s; context = h } ∷ place_each h (storeys_from (at + 24) rest)) z;
-      rows = refl;
-    }
-split h settings base e w at (t ∷ first) s rest =
-    let k = split h settings base e w (at + 24) first s rest in
-    let here : Placed = record { offset = at; command = storey t; context = h } in
+pub sets_split : (h : Context) (at : ℕ) (first : List Storey) (s : Storey) (rest : List Storey) →
+    placed_sets h at (first ++ s ∷ rest) ≡ placed_sets h at first ++ placed_set h (at + 24 * length first) s ∷ placed_sets h (at + 24 * length first + 24) rest
+unfolding next
+sets_split h at [] s rest = let z : at ≡ at + 24 * 0 = omega arith in ap (λ (k : ℕ). placed_set h k s ∷ placed_sets h (k + 24) rest) z
+sets_split h at (t ∷ first) s rest =
     let z : at + 24 + 24 * length first ≡ at + 24 * length (t ∷ first) = omega arith in
-    record {
-      sets = here ∷ k.sets;
-      later = k.later;
-      are = ap (λ (xs : List Placed). here ∷ xs) k.are ∙ ap (λ (j : ℕ). here ∷ (k.sets ++ record { offset = j; command = storey s; context = h } ∷ k.later)) z;
-      rows = length-append (rows_at here) (all_rows k.sets) ∙ omega (arith, one_row h at settings base e w t, k.rows);
-    }
+    ap (λ (xs : List Placed). placed_set h at t ∷ xs)
+    (sets_split h (at + 24) first s rest ∙ ap (λ (k : ℕ). placed_sets h (at + 24) first ++ placed_set h k s ∷ placed_sets h (k + 24) rest) z)
+
+-- where settings and a base are given it has one row
+module _ (h : Context) (settings : Settings) (base : WallBase) (e : h.settings ≡ Some settings) (w : h.wall ≡ Some base) where
+  pub set_row : (at : ℕ) (s : Storey) → rows_at (placed_set h at s) ≡ words at 7 (storey_row settings.behaviour base s) ∷ []
+  unfolding rows_of rows_with
+  set_row at s = rw (e, w)
+
+  pub sets_many : (at : ℕ) (ss : List Storey) → length (all_rows (placed_sets h at ss)) ≡ length ss
+  unfolding next all_rows
+  sets_many at [] = refl
+  sets_many at (s ∷ ss) = length-append (rows_at (placed_set h at s)) (all_rows (placed_sets h (at + 24) ss)) ∙ omega (arith, ap length (set_row at s), sets_many (at + 24) ss)
 
 -- its claims
 storey_claim : (words : List ℤ) (n at : ℕ) (h : Context) (s : Storey) (settings : Settings) (base : WallBase) → h.settings ≡ Some settings → h.wall ≡ Some base →
@@ -101,16 +96,17 @@ blocks_held job b es e before x after q first s rest g m l =
     (all ∙ ap (λ (ps : List Placed). placed_all before ++ (ps ++ placed_all after)) (own ∙ ap (λ (ss : List Storey). place_each h (storeys_from at ss)) first_of.2))).1 in
     let (settings, by_settings) = present h.settings (settings_there 7 refl h.settings standing.settings) in
     let (base, by-base) = present h.wall standing.present in
-    let k = split h settings base by_settings by-base at first s rest in
-    let p : Placed = record { offset = at + 24 * length first; command = storey s; context = h } in
-    let earlier = placed_all before ++ k.sets in
-    let place : placed_all es ≡ earlier ++ p ∷ (k.later ++ placed_all after) =
-    all ∙ ap (λ (ps : List Placed). placed_all before ++ (ps ++ placed_all after)) (own ∙ k.are)
-    ∙ ap (λ (ps : List Placed). placed_all before ++ ps) (append_assoc k.sets (p ∷ k.later) (placed_all after))
-    ∙ sym (append_assoc (placed_all before) k.sets (p ∷ (k.later ++ placed_all after))) in
+    let sets = placed_sets h at first in
+    let later = placed_sets h (at + 24 * length first + 24) rest in
+    let p = placed_set h (at + 24 * length first) s in
+    let earlier = placed_all before ++ sets in
+    let place : placed_all es ≡ earlier ++ p ∷ (later ++ placed_all after) =
+    all ∙ ap (λ (ps : List Placed). placed_all before ++ (ps ++ placed_all after)) (own ∙ sets_split h at first s rest)
+    ∙ ap (λ (ps : List Placed). placed_all before ++ ps) (append_assoc sets (p ∷ later) (placed_all after))
+    ∙ sym (append_assoc (placed_all before) sets (p ∷ (later ++ placed_all after))) in
     let n : 0 + length (all_rows earlier) ≡ length (all_rows (placed_all before)) + length first =
-    omega (arith, ap length (rows_of_both (placed_all before) k.sets) ∙ length-append (all_rows (placed_all before)) (all_rows k.sets), k.rows) in
-    let held = held_at (rows_after job m) 0 earlier p (k.later ++ placed_all after) (subst (AllHold (rows_after job m) 0) place (all_held job b (placed_all es) is-placed m l)) in
+    omega (arith, ap length (rows_of_both (placed_all before) sets) ∙ length-append (all_rows (placed_all before)) (all_rows sets), sets_many h settings base by_settings by-base at first) in
+    let held = held_at (rows_after job m) 0 earlier p (later ++ placed_all after) (subst (AllHold (rows_after job m) 0) place (all_held job b (placed_all es) is-placed m l)) in
     record {
       settings = settings;
       base = base;

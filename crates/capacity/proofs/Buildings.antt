@@ -1,22 +1,22 @@
 -- In an accepted file each building gives the rows of its own file, offsets moved by that of its settings. The commands of the file are cut
 -- at each 0D (CutFile.antt); the bytes of a building are those of its commands, and so its own file is accepted. 02, No. 10. Assumes
 -- nothing.
-use mathlib.Core.Path.{◌≡◌, refl, sym, ap, ap₂, ◌∙◌, subst}
+use mathlib.Core.Path.{◌≡◌, refl, sym, ap, ◌∙◌, subst}
 use mathlib.Core.List.{List, [], ◌∷◌, ◌++◌, append_assoc, append-nil, map}
 use Rattle.std.proofs.Math.ListN.{get_or-map}
 use Rattle.std.proofs.lemmas.List.{get_or-append-add}
-use Prim.Native.Nat.{ℕ, zero, suc, ◌+◌, ◌-◌, ◌*◌, ◌≤◌, ◌<◌}
-use native.Mathlib.Nat.{not-suc-le-zero, add-zero}
+use Prim.Native.Nat.{ℕ, ◌+◌, ◌-◌, ◌*◌, ◌≤◌, ◌<◌}
+use native.Mathlib.Nat.{add-zero}
 use native.Mathlib.Omega.{arith}
 use lib.IntN.{ℤ}
 use lib.ListN.{length, length-append, length-map, get_or, get_or-append, take, drop}
-use lib.Seq.{take_at, take-append_seam, drop-append_seam, drop-append-add}
+use lib.Seq.{take-append_seam, drop-append_seam}
 use borrow.Author.Tests.{le-leb}
 use Rattle.layout.specs.Layouts.{operands_width, forms_of, forms_in, width_of_all}
 use Rattle.layout.proofs.Numbers.{Bytes}
 use Rattle.format.specs.declared.Command.TheVariants.{Building as building}
 use Rattle.blocks.specs.FileCommands.{FileCommand, one}
-use Rattle.writing.specs.Bytes.{operand_bytes, bytes_of, file_bytes_of}
+use Rattle.writing.specs.Bytes.{operand_bytes, bytes_of}
 use Rattle.writing.specs.Files.{AllWritable, all_bytes}
 use Rattle.writing.proofs.FileReadBack.{end_byte, all_and_end}
 use Rattle.context.specs.Context.{nothing, next}
@@ -33,28 +33,13 @@ use Rattle.capacity.specs.Calls.{rows_from, rows_after}
 use Rattle.capacity.specs.Singly.{file_of}
 use Rattle.capacity.specs.Buildings.{Building, begun_at, cut_at, buildings_of, own_file, words_read, moved, Alone, EachAlone, AllBuildingsAlone}
 use Rattle.capacity.proofs.Written.{rows_eight}
-use Rattle.capacity.proofs.FileListed.{entries_from, file_accepted, file_passes}
-use Rattle.capacity.proofs.WrittenAgain.{commands_of, job_again, all_writable}
+use Rattle.capacity.proofs.RowRead.{row_at, row_written}
+use Rattle.capacity.proofs.FileListed.{entries_from, bytes_both, writable_front, writable_behind, file_accepted}
+use Rattle.capacity.proofs.WrittenAgain.{commands_of}
+use Rattle.capacity.proofs.FileAgain.{is_file, writable, passes, entries_are}
 use Rattle.capacity.proofs.CutFile.{NoneBegins, NoneOfAll, joined_by_0D, cut, at_end, at_building, alone_passes, behind_passes, context_behind_all, entries_both, none_begun_at, rows_made, rows_moved, building_rows, rows_both, few_begun}
 
--- ---- a row read off the words
-
-row_at : (rows : List (List ℤ)) → Eights rows → (tail : List ℤ) (i : ℕ) → i < length rows → words_read (joined rows ++ tail) i ≡ get_or rows i []
-row_at [] e tail i l = absurd (not-suc-le-zero l)
-row_at (r ∷ rs) (e, es) tail zero l =
-    ap (take 8) (append_assoc r (joined rs) tail) ∙ take_at r (joined rs ++ tail) 8 e
-row_at (r ∷ rs) (e, es) tail (suc i) l =
-    let k : 8 * suc i ≡ length r + 8 * i = omega (arith, e) in
-    ap₂ (λ (n : ℕ) (ws : List ℤ). take 8 (drop n ws)) k (append_assoc r (joined rs) tail)
-    ∙ ap (take 8) (drop-append-add r (joined rs ++ tail) (8 * i))
-    ∙ row_at rs es tail i (omega arith)
-
 -- ---- bytes
-
-bytes_both : (cs ds : List FileCommand) → all_bytes (cs ++ ds) ≡ all_bytes cs ++ all_bytes ds
-unfolding all_bytes
-bytes_both [] ds = refl
-bytes_both (c ∷ cs) ds = ap (λ (l : List ℕ). file_bytes_of c ++ l) (bytes_both cs ds) ∙ sym (append_assoc (file_bytes_of c) (all_bytes cs) (all_bytes ds))
 
 building_byte : bytes_of building ≡ 13 ∷ []
 unfolding bytes_of operand_bytes forms_of forms_in
@@ -66,14 +51,6 @@ building_bytes cs = rw building_byte
 
 file_bytes : (cs : List FileCommand) → file_of cs ≡ all_bytes cs ++ 0 ∷ []
 file_bytes cs = all_and_end cs ∙ ap (λ (l : List ℕ). all_bytes cs ++ l) end_byte
-
-writable_own : (cs ds : List FileCommand) → AllWritable (cs ++ ds) → AllWritable cs
-writable_own [] ds w = tt
-writable_own (c ∷ cs) ds (w, ws) = (w, writable_own cs ds ws)
-
-writable_behind : (cs : List FileCommand) (c : FileCommand) (ds : List FileCommand) → AllWritable (cs ++ c ∷ ds) → AllWritable ds
-writable_behind [] c ds (w, ws) = ws
-writable_behind (x ∷ cs) c ds (w, ws) = writable_behind cs c ds ws
 
 -- ---- a file of one building's commands
 
@@ -89,10 +66,7 @@ module _ (own : List FileCommand) (w : AllWritable own) (p : Passes first_counts
   own_size = ap size_from own_accepted
 
   own_words : (alone : List ℤ) → 8 * length own_rows ≤ length alone → (i : ℕ) → i < length own_rows → words_read (rows_after (file_of own) alone) i ≡ get_or own_rows i []
-  unfolding rows_after
-  own_words alone room i l =
-      ap (λ (j : Job). words_read (rows_from j alone) i) own_accepted
-      ∙ rw (le-leb (8 * length own_rows) (length alone) room) (row_at own_rows (rows_eight (placed_all (entries_from 0 nothing own))) (drop (8 * length own_rows) alone) i l)
+  own_words alone room i l = row_written (file_of own) (placed_all (entries_from 0 nothing own)) own_accepted alone room i l
 
 -- ---- a building in the file
 
@@ -121,7 +95,7 @@ module _ (file : List ℕ) (lent : List ℤ) (front : List ℕ) (rows : List (Li
       ap (λ (k : ℕ). take k (drop (length front) file) ++ 0 ∷ []) n ∙ ap (λ (l : List ℕ). l ++ 0 ∷ []) cut ∙ sym (file_bytes own)
 
   writable_here : AllWritable own
-  writable_here = writable_own own ds s.writable
+  writable_here = writable_front own ds s.writable
 
   abbrev rows_alone : List (List ℤ)
   rows_alone = rows_made 0 nothing own
@@ -197,7 +171,7 @@ module _ (file : List ℕ) (lent : List ℤ) (front : List ℕ) (rows : List (Li
   behind_then =
       record {
         bytes = bytes_then;
-        writable = writable_behind own (one building) ds s.writable;
+        writable = (writable_behind own (one building ∷ ds) s.writable).1;
         eight = eights_both rows (rows_made (length front) nothing own) s.eight (rows_eight (placed_all (entries_from (length front) nothing own)));
         tail = s.tail;
         words =
@@ -233,24 +207,8 @@ cut_many from [] end = refl
 cut_many from (at ∷ ats) end = omega (arith, cut_many (at + 1) ats end)
 
 module _ (file : List ℕ) (b : Bytes file) (es : List Entry) (e : listed file ≡ accepted es) where
-  commands : List FileCommand
+  abbrev commands : List FileCommand
   commands = commands_of es
-
-  is_file : file_of commands ≡ file
-  unfolding commands
-  is_file = job_again file es e b
-
-  writable : AllWritable commands
-  unfolding commands
-  writable = all_writable file es e b
-
-  passes : Passes first_counts nothing commands
-  passes = file_passes commands writable es (ap listed is_file ∙ e)
-
-  entries_are : entries_from 0 nothing commands ≡ es
-  entries_are =
-      let q : accepted (entries_from 0 nothing commands) ≡ accepted es = sym (file_accepted commands writable passes) ∙ ap listed is_file ∙ e in
-      cc
 
   many : length (buildings_of file es) ≡ 1 + length (begun_at es)
   many = cut_many 0 (begun_at es) (length file - 1)
@@ -260,22 +218,22 @@ module _ (file : List ℕ) (b : Bytes file) (es : List Entry) (e : listed file �
   in_order lent rows z l =
       let c = cut commands in
       let made = rows_made 0 nothing commands in
-      let is_accepted : placed file ≡ accepted (placed_all (entries_from 0 nothing commands)) = placed_of_lem file es e ∙ ap (λ (xs : List Entry). accepted (placed_all xs)) (sym entries_are) in
+      let is_accepted : placed file ≡ accepted (placed_all (entries_from 0 nothing commands)) = placed_of_lem file es e ∙ ap (λ (xs : List Entry). accepted (placed_all xs)) (sym (entries_are file b es e)) in
       let size : size_of file ≡ rows_answer (length made) = ap size_from is_accepted in
       let count : rows ≡ length made = ap (λ (a : Answer). a.rows) (sym z ∙ size) in
       let start : Behind file lent [] [] commands = record {
-        bytes = sym is_file ∙ file_bytes commands;
-        writable = writable;
+        bytes = sym (is_file file b es e) ∙ file_bytes commands;
+        writable = writable file b es e;
         eight = tt;
         tail = drop (8 * length made) lent;
         words = ap (λ (j : Job). rows_from j lent) is_accepted ∙ rw (le-leb (8 * length made) (length lent) (omega arith));
         size = size ∙ ap rows_answer (omega arith);
       } in
-      subst (λ (xs : List Entry). EachAlone file lent 0 (cut_at 0 (begun_at xs) (length file - 1))) (ap (entries_from 0 nothing) (sym c.is) ∙ entries_are)
-      (each file lent [] [] c.own c.rest (subst (Behind file lent [] []) c.is start) c.none_own c.none_rest first_counts (subst (Passes first_counts nothing) c.is passes))
+      subst (λ (xs : List Entry). EachAlone file lent 0 (cut_at 0 (begun_at xs) (length file - 1))) (ap (entries_from 0 nothing) (sym c.is) ∙ entries_are file b es e)
+      (each file lent [] [] c.own c.rest (subst (Behind file lent [] []) c.is start) c.none_own c.none_rest first_counts (subst (Passes first_counts nothing) c.is (passes file b es e)))
 
   few : length (buildings_of file es) ≤ 16
-  few = omega (arith, many, few_begun first_counts 0 nothing commands (omega arith) passes, ap (λ (xs : List Entry). length (begun_at xs)) entries_are)
+  few = omega (arith, many, few_begun first_counts 0 nothing commands (omega arith) (passes file b es e), ap (λ (xs : List Entry). length (begun_at xs)) (entries_are file b es e))
 
 pub buildings_alone : (file : List ℕ) → Bytes file → AllBuildingsAlone file
 buildings_alone file b es e = record { few = few file b es e; each = in_order file b es e }

@@ -36,6 +36,20 @@ use Rattle.capacity.specs.Singly.{file_of, without_offsets}
 
 -- ---- the commands of a file, as they stand in it
 
+pub bytes_both : (cs ds : List FileCommand) → all_bytes (cs ++ ds) ≡ all_bytes cs ++ all_bytes ds
+unfolding all_bytes
+bytes_both [] ds = refl
+bytes_both (c ∷ cs) ds = ap (λ (l : List ℕ). file_bytes_of c ++ l) (bytes_both cs ds) ∙ sym (append_assoc (file_bytes_of c) (all_bytes cs) (all_bytes ds))
+
+-- each of two lists could have been written where both could
+pub writable_front : (cs ds : List FileCommand) → AllWritable (cs ++ ds) → AllWritable cs
+writable_front [] ds w = tt
+writable_front (c ∷ cs) ds (w, ws) = (w, writable_front cs ds ws)
+
+pub writable_behind : (cs ds : List FileCommand) → AllWritable (cs ++ ds) → AllWritable ds
+writable_behind [] ds w = w
+writable_behind (c ∷ cs) ds (w, ws) = writable_behind cs ds ws
+
 -- the entries of commands one after the other, the first at an offset with this context
 abbrev pub entries_from : ℕ → Context → List FileCommand → List Entry
 entries_from at h [] = []
@@ -52,7 +66,7 @@ stands_whole front c rest t r =
     }
 
 -- a file from some commands on, with its end
-abbrev rest_of : List FileCommand → List ℕ
+abbrev pub rest_of : List FileCommand → List ℕ
 rest_of cs = all_bytes cs ++ (bytes_of finish ++ [])
 
 -- ---- at the end
@@ -111,12 +125,12 @@ module _ (front : List ℕ) (c : FileCommand) (cs : List FileCommand) (w : Writa
       ∙ ap (λ (x : FileCommand). accepted (record { offset = length front; given = x; context = h } ∷ es)) here.read
 
   -- it passes, and the file from the next command on is accepted
-  record Passing : Type 0 where
+  pub record Passing : Type 0 where
     pub own : PassesAt counts h c
     pub later : List Entry
     pub rest : listed_by tests_at n ((front ++ file_bytes_of c) ++ rest_of cs) (length (front ++ file_bytes_of c)) (counted counts c) (through h (given c)) ≡ accepted later
 
-  goes_passing : (es : List Entry) → listed_by tests_at (suc n) job (length front) counts h ≡ accepted es → Passing
+  pub goes_passing : (es : List Entry) → listed_by tests_at (suc n) job (length front) counts h ≡ accepted es → Passing
   goes_passing es =
       by_cases tests_at n job (length front) counts h (λ j. j ≡ accepted es → Passing) (λ l q. absurd (not_both q)) (λ l k e q. absurd (not_both q)) (λ l e b m q. absurd (not_both q))
       (λ l e b m q. absurd (no_end b)) (λ l e b q. behind (tests_passed job (length front) counts h c here w.other e) (rest_after tests_at n job (length front) counts h) refl q)
@@ -127,7 +141,7 @@ module _ (front : List ℕ) (c : FileCommand) (cs : List FileCommand) (w : Writa
 
 -- ---- the whole file
 
-split : (front : List ℕ) (c : FileCommand) (cs : List FileCommand) → front ++ rest_of (c ∷ cs) ≡ front ++ (file_bytes_of c ++ rest_of cs)
+pub split : (front : List ℕ) (c : FileCommand) (cs : List FileCommand) → front ++ rest_of (c ∷ cs) ≡ front ++ (file_bytes_of c ++ rest_of cs)
 unfolding all_bytes
 split front c cs = ap (λ (l : List ℕ). front ++ l) (append_assoc (file_bytes_of c) (all_bytes cs) (bytes_of finish ++ []))
 
@@ -152,7 +166,7 @@ from_passing (c ∷ cs) (w, ws) front (suc n) counts h es e =
     (p.own, from_passing cs ws (front ++ file_bytes_of c) n (counted counts c) (through h (given c)) p.later p.rest)
 
 module _ (cs : List FileCommand) (w : AllWritable cs) where
-  file_is : file_of cs ≡ rest_of cs
+  pub file_is : file_of cs ≡ rest_of cs
   file_is = all_and_end cs ∙ ap (λ (l : List ℕ). all_bytes cs ++ l) (sym (append-nil (bytes_of finish)))
 
   -- where they pass, they are the commands of the file

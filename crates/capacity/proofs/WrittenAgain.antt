@@ -45,7 +45,7 @@ widths_more [] x = omega arith
 widths_more (y ∷ earlier) x = omega (arith, widths_more earlier x)
 
 -- what passes the tests is in range
-passes_range : (counts : Counts) (h : Context) (c : FileCommand) → PassesAt counts h c → file_in_range c ≡ true
+pub passes_range : (counts : Counts) (h : Context) (c : FileCommand) → PassesAt counts h c → file_in_range c ≡ true
 passes_range counts h (one c) p = p.range
 passes_range counts h (block ss) p = rw p.count_in_range_lem p.range
 

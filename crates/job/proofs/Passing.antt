@@ -67,7 +67,7 @@ Passes counts h (c ∷ cs) = PassesAt counts h c × Passes (counted counts c) (t
 
 -- ---- a block, and its storeys singly
 
-after_storeys : (h : Context) (ss : List Storey) → through h (map (λ s. storey s) ss) ≡ h
+pub after_storeys : (h : Context) (ss : List Storey) → through h (map (λ s. storey s) ss) ≡ h
 unfolding next
 after_storeys h [] = refl
 after_storeys h (s ∷ ss) = after_storeys h ss
