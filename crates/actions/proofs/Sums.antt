@@ -1,7 +1,7 @@
 -- V ± a·E as the functions of `exact` have it: it fits, it is the action, it is proper, and for operands in range it is at most 5·10⁸ in
 -- size. V ± D is the action with E = 1. Assumes nothing.
-use mathlib.Core.Path.{◌≡◌, refl, sym, ap, ◌∙◌}
-use Prim.Native.Nat.{ℕ, suc, ◌+◌, ◌*◌, ◌≤◌, ◌<◌}
+use mathlib.Core.Path.{◌≡◌, refl, sym, ap, ◌∙◌, subst}
+use Prim.Native.Nat.{ℕ, suc, ◌+◌, ◌*◌, ◌^◌, ◌≤◌, ◌<◌}
 use native.Mathlib.Omega.{arith}
 use native.Mathlib.Nat.{mul-zero, mul-one, mul-le-mul}
 use lib.IntN.{ℤ, pos, negsuc, neg_ℤ, ◌*ℤ◌, nat_abs}
@@ -13,6 +13,7 @@ use Rattle.exact.specs.Sums.{SumFits}
 use Rattle.exact.proofs.Multiply.{◌·◌}
 use Rattle.exact.proofs.Integers.{above_neg, below_neg, nat_abs_law, nat_abs_neg, nat_abs_*ℤ, fits_size}
 use Rattle.exact.proofs.Rounding.{up_le_of, up_s_size, down_s_size}
+use Rattle.exact.proofs.Rounding.{size_fits as whole_and_part}
 use Rattle.coefficient.specs.declared.Quotient.{Quotient}
 use Rattle.coefficient.specs.Coefficient.{fraction}
 use Rattle.actions.specs.declared.Sign.{Sign}
@@ -55,6 +56,12 @@ sum_fits sign a v e r =
       den_fits = omega (arith, r.den);
       fits = omega (arith, nat_abs_turned sign part, nat_abs_*ℤ (pos a.num) e, mul-le-mul r.steady r.den, r.part.product);
     }
+
+-- any action that fits, without its sign, fits an i64
+pub size_fits : (sign : Sign) (a : Quotient) (v e : ℤ) → ActionFits a v e → up_f (size (action sign (fraction a) v e)) < 2 ^ 63
+size_fits sign a v e r =
+    subst (λ (x : SignedFraction). up_f (size x) < 2 ^ 63) (action_is sign a.num a.den v e)
+    (whole_and_part v (turned sign (pos a.num *ℤ e)) a.den (sum_fits sign a v e r))
 
 -- ---- bounds
 

@@ -104,6 +104,7 @@ fn wall_kept(settings: Option<Settings>, room: bool, base: WallBase) -> LatestWa
 // What a command changes in the state; a joint changes the table (`hold_joint`). `room` tells whether rows are to be written. It stays a
 // switch: with the running values worked out at every base, a wall base takes 2.9 times plain Rust in `size` (docs/DECISIONS.md).
 #[tactic(auto, unfolding(crate::specs::Running::next_state))]
+#[inline(always)]
 pub fn next(state: &mut State, room: bool, command: Command)
     requires { NextAsks state.old command }
     ensures { state.new ≡ next_state room state.old command }
@@ -119,6 +120,7 @@ pub fn next(state: &mut State, room: bool, command: Command)
 
 // The joints after a command.
 #[tactic(auto, unfolding(crate::specs::Running::next_joints))]
+#[inline(always)]
 pub fn hold_joint(joints: &mut Joints, command: Command)
     ensures { joints.new ≡ next_joints joints.old command }
 {
@@ -142,6 +144,7 @@ pub struct Held<'a> {
 impl Held<'_> {
     // Whether a command asks for what is not given: a joint, a wall base, a soil.
     #[tactic(auto, unfolding(crate::specs::Running::absent_in))]
+    #[inline(always)]
     pub fn absent(self, command: Command) -> bool
         ensures { result ≡ absent_in self.entry.state.now self.entry.joints.now command }
     {

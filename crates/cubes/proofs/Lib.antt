@@ -3,4 +3,4 @@ pub mod Figures
 pub mod Halving
 pub mod Roots
 pub mod Rule
-pub mod Table
+pub mod Held

@@ -2,10 +2,17 @@
 #![tactic(auto)]
 
 ghost use Rattle.std.specs.Prelude.{◌≡◌, ◌⊎◌, ◌*◌, ◌^◌, ◌≤◌, ◌<◌};
-ghost use Rattle.cubes.specs.Cube.{cube};
+ghost use Rattle.cubes.specs.Cube.{cube, IsCubes};
 ghost use Rattle.cubes.specs.Root.{Least, least_root};
 
 mod entries; // entries.rt: the table
+
+// The table, for a caller of another crate.
+pub fn table() -> &'static [u64; 1001]
+    ensures { IsCubes result.now }
+{
+    &entries::CUBES
+}
 
 // The cube of k, from the table.
 fn cube_of(k: usize) -> u64

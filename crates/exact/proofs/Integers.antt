@@ -177,6 +177,14 @@ read_as e h = returned h ∙ e
 
 -- ---- an i32
 
+pub widened : {z : ℤ} → SFits w32 z → SFits w64 z
+widened {z = pos n} f = let h = f.sfits in record { sfits = omega arith }
+widened {z = negsuc n} f = let h = f.sfits in record { sfits = omega arith }
+
+pub size32 : {z : ℤ} → SFits w32 z → nat_abs z < 2 ^ 32
+size32 {z = pos n} f = let h = f.sfits in omega arith
+size32 {z = negsuc n} f = let h = f.sfits in omega arith
+
 -- an operand of up to 10⁸
 pub read32 : (z : ℤ) → nat_abs z ≤ 100000000 → to_z w32 (of_z w32 z) ≡ z
 read32 z h = to_z-of_z (fits z h)

@@ -1,4 +1,4 @@
--- What both paths of `ceil_div` return, and the total of a sum divided down. Assumes nothing.
+-- What `floor_div` and both paths of `ceil_div` return, and the total of a sum divided down. Assumes nothing.
 use mathlib.Core.Path.{◌≡◌, refl, ap, subst}
 use mathlib.Core.Bool.{true, false}
 use Prim.Native.Nat.{ℕ, zero, suc, ◌+◌, ◌/◌, ◌^◌, ◌<◌}
@@ -22,6 +22,11 @@ floor_signed : (n : ℤ) (d : ℕ) → int_div_euclid n (pos d) ≡ down_ℤ n d
 unfolding down_ℤ
 floor_signed (pos a) d = refl
 floor_signed (negsuc a) d = refl
+
+-- of a positive divisor
+pub floor_read : (n d : ℤ) → pos 0 <ℤ d → int_div_euclid n d ≡ down_ℤ n (nat_abs d)
+floor_read n (pos b) h = floor_signed n b
+floor_read n (negsuc b) h = absurd h.lt
 
 -- ---- the paths of `ceil_div`
 
@@ -52,10 +57,9 @@ ceil_high {n = pos (suc a)} {d = pos b} f h k =
 
 -- ---- `Sum::down`
 
--- a sum s with the total t, which `div_euclid` divides by its denominator
+-- a sum s with the total t, divided down by its denominator
 pub down_read :
-    (w n : ℤ) (d : ℕ) {s : SignedFraction} {t q : ℤ} → whole_s w +S ratio_s n d ≡ s → t ≡ sub_ℕ s.plus s.minus → q ≡ int_div_euclid t (pos d) → q ≡ down_s s
+    (w n : ℤ) (d : ℕ) {s : SignedFraction} {t q : ℤ} → whole_s w +S ratio_s n d ≡ s → t ≡ sub_ℕ s.plus s.minus → q ≡ down_ℤ t d → q ≡ down_s s
 down_read w n d {s} {t} v e h =
-    let g = floor_signed t d in
     let k : s.den ≡ d = omega (arith, ap (λ (x : SignedFraction). x.den) v) in
     cc

@@ -1,8 +1,8 @@
 -- The two laws of each rounding of specs/Quotient.antt: n ≤ up·d < n + d and down·d ≤ n < down·d + d, over ℕ and over ℤ,
--- that a natural between the bounds of rounding up is the rounded one, that rounding up keeps the order, and how large a rounded number is.
+-- that a number between those bounds is the rounded one, that rounding up keeps the order, and how large a rounded number is.
 -- Assumes nothing.
-use mathlib.Core.Path.{◌≡◌, ap}
-use Prim.Native.Nat.{ℕ, suc, ◌+◌, ◌-◌, ◌*◌, ◌/◌, ◌%◌, ◌≤◌, ◌<◌, min}
+use mathlib.Core.Path.{◌≡◌, sym, ap, ap₂, ◌∙◌, subst}
+use Prim.Native.Nat.{ℕ, suc, ◌+◌, ◌-◌, ◌*◌, ◌^◌, ◌/◌, ◌%◌, ◌≤◌, ◌<◌, min}
 use native.Mathlib.Omega.{arith}
 use native.Mathlib.Nat.{div-mul-le_self, lt-div-mul-add, lt_of_mul-lt-mul_right, mul-le-mul_right}
 use lib.IntN.{ℤ, pos, negsuc, neg_ℤ, sub_ℕ, nat_abs, ◌+ℤ◌, ◌*ℤ◌}
@@ -10,9 +10,10 @@ use lib.Signed.{◌≤ℤ◌, ◌<ℤ◌}
 use Rattle.std.proofs.lemmas.Grind.{div_ceil_times}
 use Rattle.exact.specs.Quotient.{up, down, up_ℤ, down_ℤ}
 use Rattle.exact.specs.Fraction.{Fraction, Proper, up_f, ◌≤F◌, ◌≈F◌}
-use Rattle.exact.specs.SignedFraction.{SignedFraction, ProperS, above, below, up_s, down_s}
+use Rattle.exact.specs.SignedFraction.{SignedFraction, ProperS, above, below, whole_s, ratio_s, ◌+S◌, up_s, down_s, size}
+use Rattle.exact.specs.Sums.{SumFits}
 use Rattle.exact.proofs.Multiply.{◌·◌}
-use Rattle.exact.proofs.Integers.{≤ℤ_in, <ℤ_in, above_neg, below_neg, nat_abs_neg, nat_abs_sub_ℕ, *ℤ_law, +ℤ_law}
+use Rattle.exact.proofs.Integers.{≡_in, ≤ℤ_in, <ℤ_in, above_neg, below_neg, nat_abs_law, nat_abs_neg, nat_abs_sub_ℕ, size_of_difference, *ℤ_law, +ℤ_law}
 
 -- ---- naturals
 
@@ -47,6 +48,12 @@ pub up_is : (n d r : ℕ) → 0 < d → n ≤ r * d → r * d < n + d → r ≡ 
 up_is n d r h a b =
     let k : r ≤ up n d = step d r (up n d) (omega (arith, up_le n d h)) in
     let l : up n d ≤ r = step d (up n d) r (omega (arith, up_lt n d h)) in
+    omega arith
+
+pub down_is : (n d r : ℕ) → 0 < d → r * d ≤ n → n < r * d + d → r ≡ down n d
+down_is n d r h a b =
+    let k : r ≤ down n d = step d r (down n d) (omega (arith, down_lt n d h)) in
+    let l : down n d ≤ r = step d (down n d) r (omega (arith, down_le n d)) in
     omega arith
 
 -- what `div_ceil` of std ensures
@@ -89,6 +96,24 @@ up_ℤ_lt n d h =
     let q = down_ℤ (neg_ℤ n) d in
     omega (arith, down_ℤ_lt (neg_ℤ n) d h, above_neg n, below_neg n, ap (λ (k : ℕ). k * d) (above_neg q), ap (λ (k : ℕ). k * d) (below_neg q))
 
+-- two integers less than one step apart are equal
+step_ℤ : (d : ℕ) (x y : ℤ) → above x * d + below y * d < above y * d + below x * d + d → above x + below y ≤ above y + below x
+step_ℤ d x y h = step d (above x + below y) (above y + below x) (omega arith)
+
+pub down_ℤ_is : (n r : ℤ) (d : ℕ) → 0 < d → above r * d + below n ≤ above n + below r * d → above n + below r * d < above r * d + d + below n → r ≡ down_ℤ n d
+down_ℤ_is n r d h a b =
+    let q = down_ℤ n d in
+    let k = step_ℤ d r q (omega (arith, down_ℤ_lt n d h)) in
+    let l = step_ℤ d q r (omega (arith, down_ℤ_le n d h)) in
+    ≡_in r q (omega arith)
+
+pub up_ℤ_is : (n r : ℤ) (d : ℕ) → 0 < d → above n + below r * d ≤ above r * d + below n → above r * d + below n < above n + below r * d + d → r ≡ up_ℤ n d
+up_ℤ_is n r d h a b =
+    let q = up_ℤ n d in
+    let k = step_ℤ d r q (omega (arith, up_ℤ_le n d h)) in
+    let l = step_ℤ d q r (omega (arith, up_ℤ_lt n d h)) in
+    ≡_in r q (omega arith)
+
 -- ---- how large they are: a quotient of a size of at most b, rounded, is of a size of at most b
 
 pub down_ℤ_size : (n : ℤ) (d b : ℕ) → nat_abs n ≤ b * d → 0 < d → nat_abs (down_ℤ n d) ≤ b
@@ -124,3 +149,20 @@ up_ℤ_laws n d h =
       ≤ℤ_in n p (omega (arith, up_ℤ_le n d h, *ℤ_law q (pos d))),
       <ℤ_in p (n +ℤ pos d) (omega (arith, up_ℤ_lt n d h, *ℤ_law q (pos d), +ℤ_law n (pos d))),
     )
+
+-- the size of a sum, up, fits an i64
+pub size_fits : (whole num : ℤ) (den : ℕ) → SumFits whole num den → up_f (size (whole_s whole +S ratio_s num den)) < 2 ^ 63
+size_fits whole num den h =
+    let x = size (whole_s whole +S ratio_s num den) in
+    omega (arith, h.positive, h.fits, up_le_self x.num x.den (omega (arith, h.positive)), ap (λ (k : ℕ). k * den) (nat_abs_law whole), nat_abs_law num)
+
+-- so does what `div_ceil` of std ensures of the size of a total t
+pub total_fits :
+    (whole num : ℤ) (den : ℕ) {s : SignedFraction} {t : ℤ} {q : ℕ} → SumFits whole num den → whole_s whole +S ratio_s num den ≡ s
+    → t ≡ sub_ℕ s.plus s.minus → q ≡ nat_abs t / den + min 1 (nat_abs t % den) → q < 2 ^ 63
+total_fits whole num den {s} {t} {q} h v e r =
+    let size_is : nat_abs t ≡ (size s).num = ap nat_abs e ∙ size_of_difference s.plus s.minus in
+    let den_is : s.den ≡ den = sym (ap (λ (x : SignedFraction). x.den) v) ∙ omega arith in
+    let up_is : q ≡ up_f (size s) = r ∙ ceil_is (nat_abs t) den h.positive ∙ ap₂ up size_is (sym den_is) in
+    let fits : up_f (size s) < 2 ^ 63 = subst (λ (x : SignedFraction). up_f (size x) < 2 ^ 63) v (size_fits whole num den h) in
+    omega (arith, up_is)

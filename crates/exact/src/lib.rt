@@ -1,16 +1,23 @@
-// Quotients rounded up (ceiling) and sums whole + num/den rounded down (floor) and up, right below zero and at the ends of i64. The floor
-// of each i64 is the library's `div_euclid`.
+// Quotients and sums whole + num/den rounded down (floor) and up (ceiling), right below zero and at the ends of i64.
 // 01, "The form each place needs": "signed quotients with floor and ceiling, right below zero and at the ends".
 #![tactic(auto)]
 
-ghost use Rattle.std.specs.Prelude.{◌≡◌, pos, nat_abs, ◌<ℤ◌};
+ghost use Rattle.std.specs.Prelude.{◌≡◌, ◌^◌, ◌<◌, pos, nat_abs, ◌<ℤ◌};
 ghost use Rattle.std.proofs.Math.IntN.{sub_ℕ};
-ghost use Rattle.exact.specs.Quotient.{up_ℤ};
+ghost use Rattle.exact.specs.Quotient.{down_ℤ, up_ℤ};
 ghost use Rattle.exact.specs.Fraction.{up_f};
 ghost use Rattle.exact.specs.SignedFraction.{SignedFraction, whole_s, ratio_s, ◌+S◌, up_s, down_s, size};
 ghost use Rattle.exact.specs.Sums.{SumFits};
 
 use std::marker::Model;
+
+// n / d, down: for a positive divisor the library's quotient.
+pub fn floor_div(n: i64, d: i64) -> i64
+    requires { pos 0 <ℤ d }
+    ensures { result ≡ down_ℤ n (nat_abs d) }
+{
+    n.div_euclid(d)
+}
 
 // n / d, up, which the library has for unsigned numbers alone. `/` rounds towards zero: that is up where n is not above 0. No step
 // overflows at the ends of i64.
@@ -65,13 +72,14 @@ impl Sum {
     pub fn down(self) -> i64
         ensures { result ≡ down_s self }
     {
-        self.total().div_euclid(self.den as i64)
+        floor_div(self.total(), self.den as i64)
     }
 
-    // The size of the sum without its sign, up.
+    // The size of the sum without its sign, up; it fits an i64.
     #[tactic(auto, using(crate::proofs::Rounding::ceil_is, crate::proofs::Integers::size_of_difference))]
     pub fn size_up(self) -> u64
-        ensures { result ≡ up_f (size self) }
+        ensures up { result ≡ up_f (size self) }
+        ensures bound { result < 2 ^ 63 }
     {
         self.total().unsigned_abs().div_ceil(self.den)
     }

@@ -8,7 +8,7 @@ ghost use Rattle.exact.specs.SignedFraction.{size, down_s};
 ghost use Rattle.coefficient.specs.Coefficient.{fraction};
 ghost use Rattle.actions.specs.Action.{action};
 ghost use Rattle.footing.specs.Flags.{counted_thrust};
-ghost use Rattle.footing.specs.Actions.{footing_coefficient, moment_b, moment_l};
+ghost use Rattle.footing.specs.Actions.{footing_coefficient, normal, moment_b, moment_l};
 ghost use Rattle.footing.specs.Rows.{FootingRange, footing_row, heavy_row, light_row, eccentricity, effective_area, base_resistance, sliding_resistance, exception, outside as outside_of, eccentric as eccentric_of};
 
 use actions::Sign;
@@ -93,7 +93,7 @@ impl FootingOnSoil {
         ensures { result ≡ footing_row self.now.settings self.now.footing self.now.soil self.now.sensitive sign }
     {
         let f = self.footing;
-        let n = self.action(f.nv, f.ne, sign).down();
+        let n = self.normal_force(sign);
         let h = self.action(f.hv, f.he, sign).size_up();
         if LEAST_NORMAL <= n {
             self.heavy_row(self.resultant(sign, n as u64), h)
@@ -112,6 +112,14 @@ impl FootingOnSoil {
         ensures down { nat_abs (down_s result) ≤ 500000000 }
     {
         actions::action(self.coefficient, v, e, sign)
+    }
+
+    // N, down.
+    fn normal_force(&self, sign: Sign) -> i64
+        ensures value { result ≡ down_s (normal self.now.settings self.now.footing sign) }
+        ensures bound { nat_abs result ≤ 500000000 }
+    {
+        self.action(self.footing.nv, self.footing.ne, sign).down()
     }
 
     // The resultant with this N.

@@ -433,6 +433,7 @@ impl Command {
 
     // Whether every operand of a command is in its range, and the relation between them holds.
     #[tactic(auto)]
+    #[inline(always)]
     pub fn in_range(self) -> bool
         ensures { result ≡ in_range self }
     {
@@ -508,6 +509,7 @@ impl<'a> CommandBytes<'a> {
 
     // The command itself, read from its operands.
     #[tactic(auto, unfolding(crate::specs::Commands::command_of))]
+    #[inline(always)]
     pub fn read(self) -> Command
         ensures { result ≡ command_in self.entry.kind self.entry.operands.now }
     {

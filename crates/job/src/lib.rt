@@ -2,7 +2,7 @@
 // `joints` and `rows` are two arguments in three functions: they are lent, and a struct would hold them for the call alone.
 #![tactic(auto)]
 
-ghost use Rattle.std.specs.Prelude.{◌≡◌, true, false, ◌≤◌, ◌<◌, ◌+◌, ◌*◌, ◌^◌, map, length, slice_range, IfOk, IfErr};
+ghost use Rattle.std.specs.Prelude.{◌≡◌, true, false, [], ◌≤◌, ◌<◌, ◌+◌, ◌*◌, ◌^◌, map, length, slice_range, IfOk, IfErr};
 ghost use Rattle.context.specs.Context.{given};
 ghost use Rattle.context.specs.Running.{room_for, no_joints, next_state, next_joints, SoundState, SoundJoints};
 ghost use Rattle.rows.specs.Rows.{row_count, words};
@@ -164,6 +164,7 @@ fn misplaced_settings(command: Kind, given: bool) -> bool
 
 // The bytes of the command by itself at a place, by its byte, or the refusal 2, 1, 8 or 4, in this order. Not of a 0D (`pass_building`).
 #[tactic(auto, using(layout::proofs::KindBytes::byte_of_found, layout::proofs::KindBytes::known_found, layout::proofs::KindBytes::unknown), unfolding(crate::specs::Walking::early_fault, crate::specs::Faults::seventeenth))]
+#[inline(always)]
 fn test_early<'a>(job: &'a [u8], place: &Place, byte: u8) -> Result<CommandBytes<'a>, Refused>
     requires inside { place.now.offset < length job.now }
     requires block { is_block byte ≡ false }
@@ -194,6 +195,7 @@ fn test_early<'a>(job: &'a [u8], place: &Place, byte: u8) -> Result<CommandBytes
 // The refusals 5 and 6 of the command of these bytes at a place, in this order. It is handed the command: answered in a Result it is copied
 // in memory, some 15 instructions more a command.
 #[tactic(auto, unfolding(crate::specs::Walking::late_fault, blocks::specs::FileCommands::file_operand_at_fault))]
+#[inline(always)]
 fn test_late(
     place: &Place,
     bytes: CommandBytes,
@@ -221,6 +223,7 @@ fn test_late(
 
 // The sets of the block at a place, or the first refusal that is due.
 #[tactic(auto, using(blocks::proofs::Sets::count_range, crate::proofs::Steps::count_named, crate::proofs::Steps::set_at, crate::proofs::Steps::set_out, blocks::proofs::Sets::sets_ranged, blocks::proofs::Sets::storeys_of_slice), unfolding(crate::specs::Walking::block_fault, crate::specs::Faults::passes_limit))]
+#[inline(always)]
 fn tested_block(job: &[u8], place: Place) -> Result<&[u8], Refused>
     requires asks { BlockAsks job.now place }
     ensures number { number_due result ≡ block_fault job.now place }
@@ -257,6 +260,7 @@ fn tested_block(job: &[u8], place: Place) -> Result<&[u8], Refused>
 }
 
 // What a command that passed its tests changes, and its rows; the place goes on to an offset behind it.
+#[inline(always)]
 fn carry_out(
     place: &mut Place,
     behind: usize,
@@ -320,6 +324,7 @@ fn pass_building(place: Place, joints: &mut Joints) -> Result<Place, Refused>
 
 // The commands by themselves from a place on, up to a block, at most so many. The job is the whole one; the joints are those
 // given so far, and `rows` is where its rows go.
+#[inline(always)]
 fn walk_stretch(
     job: &[u8],
     start: Place,
@@ -360,6 +365,7 @@ fn walk_stretch(
 }
 
 // One step over the block at a place: its tests, then its rows. The place behind it.
+#[inline(always)]
 fn pass_block(job: &[u8], place: Place, rows: &mut [i64]) -> Result<Place, Refused>
     requires asks { BlockAsks job.now place }
     ensures { BlockStepped (room_for (length rows.old)) job.now place rows.old rows.new result }
@@ -381,6 +387,10 @@ fn pass_block(job: &[u8], place: Place, rows: &mut [i64]) -> Result<Place, Refus
 
 // From a place on, at most so many commands of the file: stretches of commands by themselves, and the blocks between them.
 // No `for`: what is left of the budget is what each stretch leaves.
+// In line with its callers, and so is each step of a command, here and in the crates below: the one with no room for rows is made without
+// them, and `size` and `fault` take a tenth to a quarter less of the time (docs/BENCHMARK.md). Where the walk alone is in line, its steps
+// are calls, and they take twice the time.
+#[inline(always)]
 pub fn walk(
     job: &[u8],
     start: Place,
@@ -420,14 +430,24 @@ pub fn first_place() -> Place
     }
 }
 
-// A walk over a whole job, with no room for rows.
+// The walk over a whole job, with no room for rows. Its own function, over a table that is handed to it: three calls make it, and where the
+// table was made in it too, its entries were cleared one by one.
+#[inline(never)]
+fn walk_without_rows(job: &[u8], joints: &mut Joints) -> Result<Progress, Refused>
+    requires { joints.old ≡ no_joints }
+    ensures { (walk_from false 4097 job.now first_place no_joints []).answer ≡ walk_answer result }
+{
+    let mut rows = [0i64; 1];
+    walk(job, first_place(), WHOLE_JOB, joints, &mut rows[..0])
+}
+
+// How many rows a job has, or its refusal: the walk that writes none.
 pub fn pass(job: &[u8]) -> Result<usize, Refused>
     ensures size { row_count_answer result ≡ size_of job.now }
     ensures fault { walked_fault job.now result ≡ fault_of job.now }
 {
     let mut joints = [None; 256];
-    let mut rows = [0i64; 1];
-    let walked = walk(job, first_place(), WHOLE_JOB, &mut joints, &mut rows[..0])?;
+    let walked = walk_without_rows(job, &mut joints)?;
     match walked {
         Progress::Finished(rows) => Ok(rows),
         Progress::Paused(_) => unreachable!(),

@@ -6,12 +6,12 @@ use Prim.Native.Nat.{ℕ, zero, suc, ◌+◌, ◌-◌, ◌*◌, ◌≤◌, ◌<�
 use native.Mathlib.Numerals.{add-one}
 use native.Mathlib.Omega.{arith}
 use lib.IntN.{ℤ, pos}
-use lib.ListN.{length, get_or, take, drop, set, length-append, length-drop}
-use lib.Seq.{length-take-le, take_all, set_split}
+use lib.ListN.{length, get_or, take, drop, set, replicate, length-append, length-drop, length-replicate}
+use lib.Seq.{length-take-le, take_all, drop-drop, set_split}
 use borrow.Rule.Slice.PartMut.{put_mid, mid_of, mid_len, same_len_mid}
-use Rattle.std.proofs.lemmas.Slice.{take-put_mid}
-use Rattle.std.proofs.lemmas.List.{drop_all}
-use Rattle.text.specs.Lines.{line_feed, row_words}
+use Rattle.std.proofs.lemmas.Slice.{take-put_mid, drop-put_mid}
+use Rattle.std.proofs.lemmas.List.{drop_all, take-replicate, drop-replicate}
+use Rattle.text.specs.Lines.{space, line_feed, row_words}
 use Rattle.printing.specs.Page.{widths, right_aligned, aligned, page_line}
 use Rattle.printing.specs.Answers.{too_wide, any_too_wide}
 use Rattle.printing.proofs.Values.{length_right_aligned}
@@ -79,17 +79,18 @@ length_line words row whole e =
 
 -- ---- writing a line
 
--- the values before word i stand in the line
+-- the values before word i stand in the line, and blanks behind them
 pub record LinePart (row : List ℤ) (line : List ℕ) (at i : ℕ) : Type 0 where
   pub within : i ≤ 8
   pub place : at ≡ sum (take i widths)
   pub long : length line ≡ 81
   pub values : take at line ≡ aligned (take i widths) (take i row)
+  pub rest : drop at line ≡ replicate (81 - at) space
 
 module _ (row : List ℤ) (eight : length row ≡ 8) where
-  pub line_begun : (line : List ℕ) → length line ≡ 81 → LinePart row line 0 0
+  pub line_begun : {line : List ℕ} → line ≡ replicate 81 space → LinePart row line 0 0
   unfolding aligned
-  line_begun line l = record { within = omega arith; place = refl; long = l; values = refl }
+  line_begun b = record { within = omega arith; place = refl; long = ap length b ∙ length-replicate 81 space; values = refl; rest = b }
 
   module _ {line : List ℕ} {at i : ℕ} (p : LinePart row line at i) (h : i < 8) where
     pub line_room : at + get_or widths i 0 ≤ 80
@@ -97,6 +98,11 @@ module _ (row : List ℤ) (eight : length row ≡ 8) where
 
     pub field_size : {width : ℕ} → width ≡ get_or widths i 0 → length (take (at + width - at) (drop at line)) ≡ width
     field_size {width} w = mid_len at (at + width) line (omega (arith, line_room, p.long, w)) ∙ omega arith
+
+    pub field_blank : {width : ℕ} → width ≡ get_or widths i 0 → take (at + width - at) (drop at line) ≡ replicate width space
+    field_blank {width} w =
+        let size : at + width - at ≡ width = omega arith in
+        rw (size, p.rest) (take-replicate width (81 - at) space (omega (arith, line_room, w)))
 
     pub narrow_word : any_too_wide widths row ≡ false → too_wide (get_or widths i 0) (get_or row i (pos 0)) ≡ false
     narrow_word e = narrow_at widths row i h (omega arith) e
@@ -116,6 +122,12 @@ module _ (row : List ℤ) (eight : length row ≡ 8) where
               take-put_mid at (at + width - at) line field (at + width) (omega (arith, size)) (omega (arith, p.long))
               ∙ ap₂ (λ (a b : List ℕ). a ++ b) p.values (f ∙ ap (λ n. right_aligned n value) w)
               ∙ rw add-one (sym (aligned_next widths row i h (omega arith)));
+          rest =
+              drop-put_mid at (at + width - at) line field (at + width) (omega arith) (omega (arith, p.long)) (omega (arith, size))
+              ∙ sym (drop-drop width at line)
+              ∙ ap (drop width) p.rest
+              ∙ drop-replicate width (81 - at) space
+              ∙ ap (λ n. replicate n space) (omega arith);
         }
 
   pub line_ended : {line : List ℕ} {at i : ℕ} → LinePart row line at i → 8 ≤ i → (at < length line) × (set line at line_feed ≡ page_line row)

@@ -1,29 +1,48 @@
 -- The search for a value that is too wide, over the words of a row and over the rows. Assumes nothing.
-use mathlib.Core.Path.{◌≡◌, refl, sym, ap, ◌∙◌}
-use mathlib.Core.Bool.{Bool, true, false, ◌||◌, true≢false}
+use mathlib.Core.Path.{◌≡◌, refl, sym, ap, ap₂, ◌∙◌}
+use mathlib.Core.Bool.{Bool, true, false, not, ◌||◌, ◌&&◌, true≢false}
 use mathlib.Core.Logic.{⊎_elim}
 use mathlib.Core.List.{List, [], ◌∷◌, ◌++◌}
-use Prim.Native.Nat.{ℕ, zero, suc, ◌≤◌, ◌<◌}
+use Prim.Native.Nat.{ℕ, zero, suc, ◌-◌, ◌*◌, ◌^◌, ◌≤◌, ◌<◌}
 use native.Mathlib.Nat.{eq-or-lt_of_le}
 use native.Mathlib.Omega.{arith}
-use lib.IntN.{ℤ}
+use lib.IntN.{ℤ, pos, negsuc}
+use lib.Signed.{le_z}
 use Rattle.std.specs.List.{list_any, zip}
 use Rattle.std.specs.Simd.{first_chunks}
 use Rattle.slices.proofs.Rows.{chunks_more}
 use Rattle.text.specs.Lines.{row_words}
+use Rattle.printing.specs.declared.TheConstants.{FITTING}
 use Rattle.printing.specs.Page.{widths}
-use Rattle.printing.specs.Answers.{too_wide, any_too_wide, page_too_wide}
+use Rattle.printing.specs.Answers.{any_too_wide, page_too_wide}
 use Rattle.printing.proofs.LineSteps.{second_false}
+use Rattle.printing.proofs.Sizes.{outside}
 
 -- ---- the words of a row
 
--- the test of each word and its width
-pub any_word : (ws : List ℕ) (vs : List ℤ) → list_any (λ (p : ℤ × ℕ). too_wide p.1 p.0) (zip vs ws) ≡ any_too_wide ws vs
+-- the values that are not too wide, of so many words: the least and the greatest of each width
+pub data Fitting : List ℕ → List (ℤ × ℤ) → Type 0 where
+  none : Fitting [] []
+  one : (w below greatest : ℕ) (ws : List ℕ) (fs : List (ℤ × ℤ)) → 3 ≤ w → suc (suc below) ≡ 10 ^ (w - 2) → suc greatest ≡ 10 * 10 ^ (w - 2) → Fitting ws fs → Fitting (w ∷ ws) ((negsuc below, pos greatest) ∷ fs)
+
+-- the test of each word and its two values
+pub any_word : {ws : List ℕ} {fs : List (ℤ × ℤ)} → Fitting ws fs → (vs : List ℤ) → list_any (λ (p : ℤ × (ℤ × ℤ)). not (le_z p.1.0 p.0 && le_z p.0 p.1.1)) (zip vs fs) ≡ any_too_wide ws vs
 unfolding any_too_wide
-any_word [] [] = refl
-any_word (w ∷ ws) [] = refl
-any_word [] (v ∷ vs) = refl
-any_word (w ∷ ws) (v ∷ vs) = ap (λ b. too_wide w v || b) (any_word ws vs)
+any_word none [] = refl
+any_word none (v ∷ vs) = refl
+any_word (one w below greatest ws fs h l g more) [] = refl
+any_word (one w below greatest ws fs h l g more) (v ∷ vs) =
+    ap₂ (λ a b. a || b) (outside w below greatest h l g v) (any_word more vs)
+
+-- those of the code
+wide : {ws : List ℕ} {fs : List (ℤ × ℤ)} → Fitting ws fs → Fitting (13 ∷ ws) ((negsuc 99999999998, pos 999999999999) ∷ fs)
+wide more = one 13 _ _ _ _ (omega arith) refl refl more
+
+pub fitting_is : Fitting widths FITTING
+fitting_is =
+    one 7 _ _ _ _ (omega arith) refl refl
+    (one 3 _ _ _ _ (omega arith) refl refl
+    (wide (wide (wide (wide (wide (one 5 _ _ _ _ (omega arith) refl refl none)))))))
 
 -- ---- the rows
 

@@ -1,14 +1,14 @@
--- A value is too wide by its size: a negative one from 10 to the power of the width less two on, another from ten times that on.
--- Assumes nothing.
-use mathlib.Core.Path.{◌≡◌, ap, ◌∙◌}
-use mathlib.Core.Bool.{true, false, true≢false}
+-- A value is too wide by its size: a negative one from 10 to the power of the width less two on, another from ten times that on; so it
+-- is too wide outside of two values. Assumes nothing.
+use mathlib.Core.Path.{◌≡◌, refl, sym, ap, ◌∙◌}
+use mathlib.Core.Bool.{Bool, true, false, not, ◌&&◌, true≢false}
 use Prim.Native.Nat.{ℕ, suc, ◌-◌, ◌*◌, ◌^◌, ◌≤◌}
 use native.Mathlib.Nat.{pow-suc}
 use native.Mathlib.Omega.{arith}
-use borrow.Author.Tests.{ltb-true}
-use lib.Dec.{leb}
+use borrow.Author.Tests.{ltb-true, lt-ltb, le-ltb}
+use lib.Dec.{leb, ltb, leb-suc-suc}
 use lib.IntN.{ℤ, pos, negsuc, nat_abs}
-use lib.Signed.{lt_z}
+use lib.Signed.{lt_z, le_z}
 use Rattle.text.specs.Decimal.{signed_decimal}
 use Rattle.text.proofs.Digits.{length_below, length_from}
 use Rattle.printing.specs.Answers.{too_wide}
@@ -50,3 +50,24 @@ module _ (width : ℕ) (h : 3 ≤ width) (z : ℤ) where
       by : (z : ℤ) → lt_z z (pos 0) ≡ false → leb (10 * 10 ^ (width - 2)) (nat_abs z) ≡ too_wide width z
       by (pos n) t = rw (power, above_two) at (natural_test (width - 3) n)
       by (negsuc n) t = absurd (true≢false t)
+
+-- ---- outside of two values
+
+not_leb : (n m : ℕ) → not (leb n m) ≡ leb (suc m) n
+not_leb n m =
+    ap not (same_test n m (not (ltb m n)) (λ h. ap not (le-ltb m n h)) (λ l. ap not (lt-ltb m n l))) ∙ twice (ltb m n)
+  where
+    twice : (b : Bool) → not (not b) ≡ b
+    twice true = refl
+    twice false = refl
+
+-- the greatest value that is not too wide is one below ten times 10 to the power of the width less two, the least one above minus that
+-- power
+module _ (width below greatest : ℕ) (h : 3 ≤ width) (l : suc (suc below) ≡ 10 ^ (width - 2)) (g : suc greatest ≡ 10 * 10 ^ (width - 2)) where
+  pub outside : (z : ℤ) → not (le_z (negsuc below) z && le_z z (pos greatest)) ≡ too_wide width z
+  outside (pos n) = not_leb n greatest ∙ rw (sym g) at (test_from width h (pos n) (le-ltb n 0 (omega arith)))
+  outside (negsuc n) = ap not (with_true (leb n below)) ∙ not_leb n below ∙ sym (leb-suc-suc (suc below) n) ∙ rw (sym l) at (test_below width h (negsuc n) refl)
+    where
+      with_true : (b : Bool) → (b && true) ≡ b
+      with_true true = refl
+      with_true false = refl

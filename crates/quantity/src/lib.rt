@@ -18,11 +18,10 @@ pub trait Quantity {
         between(value, 0, Self::GREATEST)
     }
 
-    #[tactic(auto, unfolding(crate::specs::Range::within_signed))]
     final fn signed_in_range(value: i32) -> bool
         ensures { result ≡ within_signed GREATEST value }
     {
-        value.unsigned_abs() <= Self::GREATEST
+        signed_between(value, Self::GREATEST)
     }
 }
 
@@ -44,6 +43,14 @@ pub fn between(value: u32, least: u32, greatest: u32) -> bool
     ensures { result ≡ within (record { least = least; greatest = greatest }) value }
 {
     (least..=greatest).contains(&value)
+}
+
+// From minus the greatest value to the greatest.
+#[tactic(auto, unfolding(crate::specs::Range::within_signed))]
+pub fn signed_between(value: i32, greatest: u32) -> bool
+    ensures { result ≡ within_signed greatest value }
+{
+    value.unsigned_abs() <= greatest
 }
 
 impl Quantity for Force {

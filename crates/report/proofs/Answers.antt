@@ -53,7 +53,7 @@ module _ (paged : Bool) where
       (λ y q. absurd (true≢false (sym (ap (λ (a : RunAnswer). a.accepted) q))))
       (λ y q. absurd (lt_irrefl 0 (omega (arith, leb-false (8 * length (all_rows ps)) lent y, ap (λ (a : RunAnswer). a.needed) q)))) e
 
-  refused_text : (job : List ℕ) (number offset : ℕ) → refused_run number offset ≡ run_of job lent → job_text (rows_text paged) (placed job) ≡ refused_line number offset
+  pub refused_text : (job : List ℕ) (number offset : ℕ) → refused_run number offset ≡ run_of job lent → job_text (rows_text paged) (placed job) ≡ refused_line number offset
   unfolding run_of
   refused_text job number offset e = refused_from number offset (placed job) e
 
@@ -69,14 +69,14 @@ module _ (paged : Bool) where
       let l = lt-leb (length (all_rows ps)) most_rows (omega (arith, leb-false (8 * length (all_rows ps)) lent y)) in
       rw l (ap (refused_line 9) (sym (ap (λ (a : RunAnswer). a.needed) q)))) e
 
-  short_text : (job : List ℕ) (n : ℕ) → too_short_run n ≡ run_of job lent → job_text (rows_text paged) (placed job) ≡ refused_line 9 n
+  pub short_text : (job : List ℕ) (n : ℕ) → too_short_run n ≡ run_of job lent → job_text (rows_text paged) (placed job) ≡ refused_line 9 n
   unfolding run_of
   short_text job n e = short_from n (placed job) e
 
   -- ---- rows
 
   -- the rows are few enough, and what is printed is the text of the words that `run` left
-  record Shown (j : Job) (n : ℕ) (words : List ℤ) : Type 0 where
+  pub record Shown (j : Job) (n : ℕ) (words : List ℤ) : Type 0 where
     pub few : n ≤ most_rows
     pub text : job_text (rows_text paged) j ≡ rows_text paged words n
 
@@ -94,7 +94,7 @@ module _ (paged : Bool) where
       record { few = omega arith; text = rw (l, room, c) (sym same) })
       (λ y q. absurd (true≢false (ap (λ (a : RunAnswer). a.accepted) q))) e
 
-  rows_text_lem : (job : List ℕ) (t : Totals) (m : List ℤ) → length m ≡ lent → length (rows_after job m) ≡ lent → ran_answer t ≡ run_of job lent → Shown (placed job) t.rows (rows_after job m)
+  pub rows_text_lem : (job : List ℕ) (t : Totals) (m : List ℤ) → length m ≡ lent → length (rows_after job m) ≡ lent → ran_answer t ≡ run_of job lent → Shown (placed job) t.rows (rows_after job m)
   unfolding run_of rows_after
   rows_text_lem job t m k kept e = rows_from_lem t m k (placed job) kept e
 

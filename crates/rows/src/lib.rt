@@ -151,6 +151,7 @@ fn write_rows(rows: &mut [i64], n: usize, offset: usize, held: Held, command: Co
 // The same, made and written only where there is room for the first; answers the number of the row after them. A function of its own: in one
 // with `write_rows`, the place of a row is cleared for every command, of `size` too.
 #[tactic(auto, using(crate::proofs::Laws::as_many, crate::proofs::Laws::count_le, crate::proofs::Memory::stored_all_none), unfolding(crate::specs::Writing::stored_all))]
+#[inline(always)]
 pub fn emit(rows: &mut [i64], n: usize, offset: usize, held: Held, command: Command) -> usize
     requires asks { EmitAsks held.state.now held.joints.now command }
     requires rows { n ≤ 8192 }

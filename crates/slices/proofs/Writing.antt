@@ -1,13 +1,13 @@
--- The laws of writing into a slice: nothing, a byte, one text after another, a part of the slice that became the text, and a text that is
--- read back. Assumes nothing.
+-- The laws of writing into a slice: nothing, a byte, a byte before a text, one text after another or in its place, a part of the slice that
+-- became the text, and a text that is read back. Assumes nothing.
 use mathlib.Core.Path.{◌≡◌, refl, sym, ap, ◌∙◌}
 use mathlib.Core.List.{List, [], ◌∷◌, ◌++◌, append_assoc, append-nil}
-use Prim.Native.Nat.{ℕ, ◌+◌, ◌-◌, ◌≤◌, ◌<◌}
+use Prim.Native.Nat.{ℕ, suc, ◌+◌, ◌-◌, ◌≤◌, ◌<◌}
 use native.Mathlib.Nat.{add_assoc, add-zero}
 use native.Mathlib.Numerals.{add-one}
 use native.Mathlib.Omega.{arith}
-use lib.ListN.{length, take, drop, set, length-append, length-drop, take-append-drop}
-use lib.Seq.{length-take-le, take_at, drop-append-add, drop-drop, set_split}
+use lib.ListN.{length, get_or, take, drop, set, length-append, length-drop, take-append-drop}
+use lib.Seq.{length-take-le, take-suc, take_at, drop-append-add, drop_at, drop-drop, set_at, set_split}
 use borrow.Rule.Slice.PartMut.{put_mid}
 use Rattle.slices.specs.Written.{written, Put, Writes}
 
@@ -36,6 +36,15 @@ written_byte out at b h = set_split out at b h ∙ rw (append_assoc, add-one)
 pub byte : (out : List ℕ) (at b : ℕ) → at < length out → Writes out at (b ∷ []) (set out at b) (at + 1)
 byte out at b h = record { position = refl; bytes = written_byte out at b h }
 
+-- a byte before a text that is there
+pub written_before : (out : List ℕ) (at b : ℕ) (text : List ℕ) → at < length out → set (written out (at + 1) text) at b ≡ written out at (b ∷ text)
+unfolding written
+written_before out at b text h =
+    let k : at ≤ length out = omega arith in
+    let e : at + 1 + length text ≡ at + suc (length text) = omega arith in
+    rw (e, add-one, take-suc out at 0)
+    (simp append_assoc (set_at (take at out) (get_or out at 0) (text ++ drop (at + suc (length text)) out) b at (length-take-le at out k)))
+
 -- a text after another
 pub written_after : (out : List ℕ) (at : ℕ) (a b : List ℕ) → at ≤ length out → written (written out at a) (at + length a) b ≡ written out at (a ++ b)
 unfolding written
@@ -46,6 +55,24 @@ written_after out at a b h =
     let d : drop (at + length a + length b) (p ++ r) ≡ drop (at + length a + length b) out =
     rw (← e, drop-append-add) (rw (e, drop-drop)) in
     rw (take_at p r (at + length a) e, length-append, ← add_assoc, d, append_assoc (take at out) a b)
+
+-- a text in the place of another that is as long
+pub written_inside : (out : List ℕ) (at : ℕ) (a b c t : List ℕ) → at ≤ length out → length b ≡ length t → written (written out at (a ++ b ++ c)) (at + length a) t ≡ written out at (a ++ t ++ c)
+unfolding written
+written_inside out at a b c t h e =
+    let p = take at out ++ a in
+    let r = drop (at + length (a ++ b ++ c)) out in
+    let lp = length_front out at a h in
+    let whole : take at out ++ (a ++ b ++ c) ++ r ≡ p ++ (b ++ (c ++ r)) = simp append_assoc in
+    let front : take (at + length a) (p ++ (b ++ (c ++ r))) ≡ p = take_at p (b ++ (c ++ r)) (at + length a) lp in
+    let back : drop (at + length a + length t) (p ++ (b ++ (c ++ r))) ≡ c ++ r =
+    rw (← append_assoc p b (c ++ r)) (drop_at (p ++ b) (c ++ r) (at + length a + length t) (omega (arith, length-append p b, lp, e))) in
+    let same : at + length (a ++ b ++ c) ≡ at + length (a ++ t ++ c) =
+    omega (arith, length-append (a ++ b) c, length-append a b, length-append (a ++ t) c, length-append a t, e) in
+    rw (whole, front, back, same) (simp append_assoc)
+
+pub written_over : (out : List ℕ) (at : ℕ) (b t : List ℕ) → at ≤ length out → length b ≡ length t → written (written out at b) at t ≡ written out at t
+written_over out at b t h e = simp (add-zero, append-nil) at (written_inside out at [] b [] t h e)
 
 -- the same of two calls
 pub then : {b : List ℕ} {at : ℕ} {s m : List ℕ} {p : ℕ} {t c : List ℕ} {q : ℕ} → at ≤ length b → Writes b at s m p → Writes m p t c q → Writes b at (s ++ t) c q

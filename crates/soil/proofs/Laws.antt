@@ -3,12 +3,12 @@
 use mathlib.Core.Path.{◌≡◌, refl, sym, ap, ◌∙◌, subst}
 use Rattle.std.specs.Prelude.{Option, Some, None, is_some}
 use Rattle.std.specs.Option.{unwrap_or}
-use mathlib.Core.Bool.{Bool, true, false, ◌&&◌, cond, true≢false}
+use mathlib.Core.Bool.{Bool, true, false, not, ◌&&◌, cond, true≢false}
 use Prim.Native.Nat.{ℕ, ◌*◌, ◌≤◌, ◌<◌, zero-le}
 use native.Mathlib.Omega.{arith}
 use borrow.Author.Tests.{lt-leb, eqb-true, eqb-false, eq-eqb, ne_eqb}
 use lib.Dec.{T, eqb, leb→le, lit≤}
-use lib.Ieee.{Float, binary32, of_bits, le}
+use lib.Ieee.{Float, binary32, of_bits, nan_bits, le}
 use lib.Ieee.Bits.{is_true}
 use lib.Ieee.Fits.{and_l, and_r}
 use Rattle.soil.specs.declared.Soil.{Soil}
@@ -19,7 +19,7 @@ use Rattle.soil.specs.Answers.{Answer, accepted, refused, answer_of}
 use Rattle.soil.specs.Taken.{taken, take_down, tangent_of, cohesion_of}
 use Rattle.soil.specs.Reading.{soil_allowed, soil_holding, soil_of, kind_of, value_of}
 use Rattle.soil.proofs.Values.{same_test, cut_le, le_is_allowed}
-use Rattle.soil.proofs.Patterns.{over, sign_clear, no_nan, two, thousand, limits}
+use Rattle.soil.proofs.Patterns.{over, allowed_pattern, sign_clear, no_nan, two, thousand, limits}
 
 -- ---- one value
 
@@ -119,6 +119,20 @@ allowed_none kind b h =
     (λ t. subst T (over (top_of kind) b (top_le kind) h) (and_r (known kind) (allowed (top_of kind) x) t))
     (λ t. absurd t)
 
+pub allowed_no_nan : (kind b : ℕ) → soil_allowed kind b ≡ true → T (not (nan_bits binary32 b))
+unfolding soil_allowed
+allowed_no_nan kind b e =
+    allowed_pattern (top_of kind) b (and_r (known kind) (allowed (top_of kind) (of_bits binary32 b)) (subst T (sym e) tt))
+
+-- the soil of an allowed value
+pub granular_read : (kind b : ℕ) → soil_allowed kind b ≡ true → kind ≡ 0 → soil_of kind b ≡ Some (Granular (of_bits binary32 b))
+unfolding soil_of
+granular_read kind b e k = rw (e, eq-eqb kind 0 k)
+
+pub cohesive_read : (kind b : ℕ) → soil_allowed kind b ≡ true → (kind ≡ 0 → ⊥) → soil_of kind b ≡ Some (Cohesive (of_bits binary32 b))
+unfolding soil_of
+cohesive_read kind b e n = rw (e, ne_eqb kind 0 n)
+
 -- ---- a pattern with the sign bit clear, by the machine's comparison with the limit of its kind
 
 granular_test : (kind b : ℕ) → b < 2139095040 → kind ≡ 0 → le (of_bits binary32 b) (of_bits binary32 1073741824) ≡ soil_allowed kind b
@@ -136,16 +150,14 @@ cohesive_test kind b h k =
 -- the soil that is read
 pub soil_granular : (kind b : ℕ) → b < 2139095040 → kind ≡ 0 → le (of_bits binary32 b) (of_bits binary32 1073741824) ≡ true →
     soil_of kind b ≡ Some (Granular (of_bits binary32 b))
-unfolding soil_of
-soil_granular kind b h k t = rw (sym (granular_test kind b h k) ∙ t, eq-eqb kind 0 k)
+soil_granular kind b h k t = granular_read kind b (sym (granular_test kind b h k) ∙ t) k
 
 pub soil_cohesive : (kind b : ℕ) → b < 2139095040 → kind ≡ 1 → le (of_bits binary32 b) (of_bits binary32 1148846080) ≡ true →
     soil_of kind b ≡ Some (Cohesive (of_bits binary32 b))
-unfolding soil_of
-soil_cohesive kind b h k t = rw (sym (cohesive_test kind b h k) ∙ t, ne_eqb kind 0 (omega arith))
+soil_cohesive kind b h k t = cohesive_read kind b (sym (cohesive_test kind b h k) ∙ t) (omega arith)
 
 -- no soil is
-soil_none : (kind b : ℕ) → soil_allowed kind b ≡ false → soil_of kind b ≡ None
+pub soil_none : (kind b : ℕ) → soil_allowed kind b ≡ false → soil_of kind b ≡ None
 unfolding soil_of
 soil_none kind b e = rw e
 

@@ -8,11 +8,11 @@ use borrow.Author.Tests.{lt-leb, le-leb, leb-true, leb-false}
 use lib.Dec.{T, leb, ltb, eqb, eqb→eq, ltb→lt, not_T, lit<, lit≤}
 use lib.Pow.{pow-add, pow_pos, pow_mono, shl_lt}
 use lib.Ieee.{Float, nan, inf, binary32, odd, of_fields, of_bits, to_bits, fits, nan_bits}
-use lib.Ieee.Bits.{cond_no, of_bits-to_bits, nan_bits_above}
+use lib.Ieee.Bits.{cond_no, of_bits-to_bits, nan_bits_is, nan_bits_above}
 use lib.Ieee.Exact.{HasValue, odd_sign}
 use lib.Ieee.Nearest.{div_same}
 use Rattle.soil.specs.Value.{allowed, cut}
-use Rattle.soil.proofs.Values.{allowed_value, cut_value, signed}
+use Rattle.soil.proofs.Values.{allowed_value, allowed_no_nan, cut_value, signed}
 
 -- the digits of a field x with t after the leading one; a field of 0 has no leading one
 abbrev digits : ℕ → ℕ → ℕ
@@ -172,6 +172,9 @@ shifted b factor h l = go (b / 8388608) refl
 pub no_nan : (b : ℕ) → b < 2139095040 → T (not (nan_bits binary32 b))
 no_nan b h =
     rw (nan_bits_above binary32 b) (not_T (ltb 2139095040 (b % 2147483648)) (λ t. let l = ltb→lt 2139095040 (b % 2147483648) t in omega arith))
+
+pub allowed_pattern : (top b : ℕ) → T (allowed top (of_bits binary32 b)) → T (not (nan_bits binary32 b))
+allowed_pattern top b t = rw (nan_bits_is binary32 b) (allowed_no_nan top (of_bits binary32 b) t)
 
 -- ---- a value by its own pattern
 

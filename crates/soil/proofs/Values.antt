@@ -56,6 +56,12 @@ cut_le top factor (fin true m e) t = absurd t
 cut_le top factor (fin false m e) t =
     div-le_of_le-mul (down e) (most (m * up e) (down e) top factor (leb→le (m * up e) (top * down e) t))
 
+pub allowed_no_nan : (top : ℕ) (x : Float) → T (allowed top x) → T (not (is_nan x))
+unfolding allowed is_nan
+allowed_no_nan top nan t = t
+allowed_no_nan top (inf s) t = tt
+allowed_no_nan top (fin s m e) t = tt
+
 -- ---- the machine's comparison
 
 -- whether the sign bit is set; a NaN has no sign

@@ -5,7 +5,7 @@
 ghost use Rattle.std.specs.Prelude.{◌≡◌, ◌++◌, ◌+◌, ◌*◌, ◌≤◌, length};
 ghost use Rattle.arrayvec.specs.ArrayString.{array_string_len};
 ghost use Rattle.text.specs.Decimal.{decimal, signed_decimal};
-ghost use Rattle.text.specs.Lines.{row_line, rows_text, totals_line, refused_line, listing_text};
+ghost use Rattle.text.specs.Lines.{row_line, row_words, rows_text, totals_line, refused_line, listing_text};
 ghost use Rattle.slices.specs.Written.{Writes, WritesAtMost};
 
 use arrayvec::ArrayString;
@@ -44,14 +44,14 @@ fn push_labelled<const N: usize>(line: &mut ArrayString<N>, label: &str, value: 
     line.push_str(Buffer::new().format(value));
 }
 
-// The totals.
-fn totals_line(totals: Totals) -> ArrayString<82>
-    ensures { result.bytes ≡ totals_line totals.rows totals.failed totals.checks }
+// The totals: rows, rows failed, checks failed.
+fn totals_line(rows: u64, failed: u64, checks: u64) -> ArrayString<82>
+    ensures { result.bytes ≡ totals_line rows failed checks }
 {
     let mut line = ArrayString::new();
-    push_labelled(&mut line, "rows ", totals.rows as u64);
-    push_labelled(&mut line, " failed ", totals.failed);
-    push_labelled(&mut line, " checks ", totals.checks);
+    push_labelled(&mut line, "rows ", rows);
+    push_labelled(&mut line, " failed ", failed);
+    push_labelled(&mut line, " checks ", checks);
     line.push('\n');
     line
 }
@@ -67,28 +67,50 @@ fn refused_line(number: u64, offset: u64) -> ArrayString<50>
     line
 }
 
-// A text from a position on; answers the position after it. The slice and the position are no struct: this function alone takes both.
-fn put_text(out: &mut [u8], at: usize, text: &str) -> usize
+// A text from a position on; answers the position after it. The slice and the position are no struct: a caller has them apart.
+pub fn put_text(out: &mut [u8], at: usize, text: &[u8]) -> usize
     requires { at + length text.now ≤ length out.old }
     ensures { Writes out.old at text.now out.new result }
 {
     let end = at + text.len();
-    out[at..end].copy_from_slice(text.as_bytes());
+    out[at..end].copy_from_slice(text);
     end
 }
 
+// The line of one of the rows.
+pub fn put_row(out: &mut [u8], at: usize, rows: &[i64], row: usize) -> usize
+    requires words { 8 * row + 8 ≤ length rows.now }
+    requires room { at + 168 ≤ length out.old }
+    ensures { WritesAtMost 168 out.old at (row_line (row_words rows.now row)) out.new result }
+{
+    let line = row_line(&slices::first_rows(rows, row + 1)[row]);
+    put_text(out, at, line.as_str().as_bytes())
+}
+
 // The lines of the first rows, of a slice that may be longer: so their number is given too.
-fn put_rows(out: &mut [u8], rows: &[i64], count: usize) -> usize
+pub fn put_rows(out: &mut [u8], at: usize, rows: &[i64], count: usize) -> usize
     requires words { 8 * count ≤ length rows.now }
-    requires room { 168 * count ≤ length out.old }
-    ensures { WritesAtMost (168 * count) out.old 0 (rows_text rows.now count) out.new result }
+    requires room { at + 168 * count ≤ length out.old }
+    ensures { WritesAtMost (168 * count) out.old at (rows_text rows.now count) out.new result }
 {
     let first = slices::first_rows(rows, count);
-    let mut at = 0;
+    let mut next = at;
     for row in first {
-        at = put_text(out, at, row_line(row).as_str());
+        next = put_text(out, next, row_line(row).as_str().as_bytes());
     }
-    at
+    next
+}
+
+// The line of the totals.
+pub fn put_totals(out: &mut [u8], at: usize, rows: u64, failed: u64, checks: u64) -> usize
+    requires { at + 82 ≤ length out.old }
+    ensures { WritesAtMost 82 out.old at (totals_line rows failed checks) out.new result }
+{
+    put_text(
+        out,
+        at,
+        totals_line(rows, failed, checks).as_str().as_bytes(),
+    )
 }
 
 // The listing of an accepted job, from the start of the slice: the rows of these totals, then the totals. Answers its length. A caller with
@@ -98,8 +120,8 @@ pub fn put_listing(out: &mut [u8], rows: &[i64], totals: Totals) -> usize
     requires room { 168 * totals.rows + 82 ≤ length out.old }
     ensures { WritesAtMost (168 * totals.rows + 82) out.old 0 (listing_text rows.now totals.rows totals.failed totals.checks) out.new result }
 {
-    let at = put_rows(out, rows, totals.rows);
-    put_text(out, at, totals_line(totals).as_str())
+    let at = put_rows(out, 0, rows, totals.rows);
+    put_totals(out, at, totals.rows as u64, totals.failed, totals.checks)
 }
 
 // The line of a refusal, likewise from the start of the slice. Answers its length. The refusal is a number, as the line prints it.
@@ -107,5 +129,5 @@ pub fn put_refused(out: &mut [u8], number: u64, offset: u64) -> usize
     requires { 50 ≤ length out.old }
     ensures { WritesAtMost 50 out.old 0 (refused_line number offset) out.new result }
 {
-    put_text(out, 0, refused_line(number, offset).as_str())
+    put_text(out, 0, refused_line(number, offset).as_str().as_bytes())
 }

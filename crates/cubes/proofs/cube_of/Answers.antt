@@ -1,5 +1,5 @@
--- `cube_of` meets its contract: the table holds the cubes (Table.antt). Assumes nothing.
-use Rattle.cubes.proofs.Table.{is_cubes}
+-- `cube_of` meets its contract: the table holds the cubes (Held.antt). Assumes nothing.
+use Rattle.cubes.proofs.Held.{is_cubes}
 use Rattle.cubes.proofs.cube_of.Goals as goal
 
 pub returns : goal.returns

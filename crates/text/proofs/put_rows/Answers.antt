@@ -7,11 +7,11 @@ use Rattle.text.proofs.put_rows.Goals as goal
 
 pub loop-row-init : goal.loop-row-init
 unfolding rows_text
-loop-row-init c = record { writes = nothing c.args.out.now 0; short = omega arith }
+loop-row-init c = record { writes = nothing c.args.out.now c.args.at; short = omega arith }
 
-pub put_text-at-requires : goal.put_text-at-requires
-put_text-at-requires c =
-    let short : length c.as_str.result.now ≤ 168 = c.as_str.ensures.fits in
+pub put_text-next-requires : goal.put_text-next-requires
+put_text-next-requires c =
+    let short : length c.as_bytes.result.now ≤ 168 = omega (arith, ap length c.as_bytes.ensures.value, c.as_str.ensures.fits) in
     let within : c.loop-row.row-index < c.args.count = omega (arith, ap length c.first_rows-first.ensures, length_chunks 8 c.args.count c.args.rows.now) in
     omega (arith, c.requires.room)
 
@@ -19,14 +19,14 @@ pub loop-row-preserved : goal.loop-row-preserved
 unfolding rows_text
 loop-row-preserved c =
     let i = c.loop-row.row-index in
-    let short : length c.as_str.result.now ≤ 168 = c.as_str.ensures.fits in
+    let short : length c.as_bytes.result.now ≤ 168 = omega (arith, ap length c.as_bytes.ensures.value, c.as_str.ensures.fits) in
     let within : i < c.args.count = omega (arith, ap length c.first_rows-first.ensures, length_chunks 8 c.args.count c.args.rows.now) in
     let row : get_or c.first_rows-first.result.now i [] ≡ row_words c.args.rows.now i =
     ap (λ rows. get_or rows i []) c.first_rows-first.ensures ∙ chunk_at c.args.count i c.args.rows.now [] within in
-    let line : c.as_str.result.now ≡ row_line (row_words c.args.rows.now i) = c.as_str.ensures.value ∙ c.row_line.ensures ∙ ap row_line row in
+    let line : c.as_bytes.result.now ≡ row_line (row_words c.args.rows.now i) = c.as_bytes.ensures.value ∙ c.as_str.ensures.value ∙ c.row_line.ensures ∙ ap row_line row in
     record {
-      writes = rw (add-one, ← line) (then (omega arith) c.loop-row.invariant.writes c.put_text-at.ensures);
-      short = omega (arith, c.put_text-at.ensures.position, c.loop-row.invariant.short);
+      writes = rw (add-one, ← line) (then (omega arith) c.loop-row.invariant.writes c.put_text-next.ensures);
+      short = omega (arith, c.put_text-next.ensures.position, c.loop-row.invariant.short);
     }
 
 pub returns : goal.returns

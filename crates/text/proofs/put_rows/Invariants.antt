@@ -5,4 +5,4 @@ use Rattle.slices.specs.Written.{WritesAtMost}
 use Rattle.text.proofs.put_rows.Given as goal
 
 abbrev pub invariant-loop-row : goal.invariant-loop-row
-invariant-loop-row l = WritesAtMost (168 * l.row-index) l.initial.out 0 (rows_text l.fn.rows l.row-index) l.out l.at
+invariant-loop-row l = WritesAtMost (168 * l.row-index) l.initial.out l.fn.at (rows_text l.fn.rows l.row-index) l.out l.next

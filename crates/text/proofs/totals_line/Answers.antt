@@ -5,6 +5,5 @@ use Rattle.text.proofs.totals_line.Goals as goal
 
 pub returns : goal.returns
 returns c =
-    let t = c.args.totals in
     c.push.ensures.ascii (omega arith)
-    ∙ rw (c.push_labelled-3.ensures.text, c.push_labelled-2.ensures.text, c.push_labelled.ensures.text, c.new-line.ensures) (totals_labels t.rows t.failed t.checks)
+    ∙ rw (c.push_labelled-3.ensures.text, c.push_labelled-2.ensures.text, c.push_labelled.ensures.text, c.new-line.ensures) (totals_labels c.args.rows c.args.failed c.args.checks)

@@ -11,5 +11,5 @@ pub returns : goal.returns
 returns c =
     let a = c.self in
     let t : SFits w64 c.total.result = record { sfits = c.total.type_inv } in
-    let q = rw (to_z-of_z t, to_z_pos w64 a.inside.den a.invariant.den_fits) at c.div_euclid.ensures in
-    read_as (down_read a.inside.whole a.inside.num a.inside.den a.view_is c.total.ensures q) c.div_euclid.type_inv
+    let q = rw (to_z-of_z t, to_z_pos w64 a.inside.den a.invariant.den_fits) at c.floor_div.ensures in
+    read_as (down_read a.inside.whole a.inside.num a.inside.den a.view_is c.total.ensures q) c.floor_div.type_inv
